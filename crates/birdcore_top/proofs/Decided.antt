@@ -1,5 +1,5 @@
 -- What is required is answered: an answer has a cause, and files that are told have one outcome.
-use Rattle.std.proofs.Common.{◌≡◌, ℕ, List, ◌++◌, Option, Some, None, refl, sym, subst, arith, inl, inr}
+use Rattle.std.proofs.Common.{◌≡◌, ℕ, Bool, true, false, List, ◌++◌, Option, Some, None, refl, sym, subst, arith, inl, inr}
 use Rattle.std.specs.Prelude.{◌⊎◌, IfSome, IsSomeAnd}
 use Rattle.std.specs.List.{All}
 use Rattle.outside_io.specs.Faults.{Rose}
@@ -11,8 +11,8 @@ use Rattle.birdcore_top.specs.declared.status.Status.TheVariants.{Usage, ConfigR
 use Rattle.birdcore_top.specs.declared.status.Status.TheVariants as variants
 use Rattle.report.specs.declared.phase.Form.{Form}
 use Rattle.report.specs.declared.phase.Form.TheVariants.{Whole}
-use Rattle.birdcore_top.specs.Command.{Command, Play, Check, usual_cells}
-use Rattle.birdcore_top.specs.Outcome.{Outcome, Misused, OverLimit, Refused, BadLine, Played, Accepted, Held, IsAccepted, CheckGives, ConfGives, ScriptGives, IsPossible, IsRequired, files_read}
+use Rattle.birdcore_top.specs.Command.{Command, Play, Run, Check, usual_cells}
+use Rattle.birdcore_top.specs.Outcome.{Outcome, Misused, OverLimit, Refused, BadLine, Played, Accepted, Held, IsAccepted, CheckGives, ConfGives, PlayGives, ScriptGives, IsPossible, IsRequired, files_read}
 use Rattle.birdcore_top.specs.Written.{IfAccepted, IfBegun}
 use Rattle.birdcore_top.specs.Answer.{Answers, HasCause, MissesInTurn, NoneFailed, SinkTakes}
 
@@ -40,7 +40,7 @@ module _ (law : HasOneOutcome) (command : Option Command) (held : Held) (o : Out
   none_written P said before now (inr is) takes = accepted said before now is takes
 
 -- a file that decides an outcome has failed
-module _ (law : HasOneOutcome) (conf script : List ℕ) (cells : ℕ) (form : Form) (held : Held) (before now : List ℕ → ℕ) where
+module _ (law : HasOneOutcome) (schedule : Bool) (conf script : List ℕ) (cells : ℕ) (form : Form) (held : Held) (before now : List ℕ → ℕ) where
   conf_failed : (o : Outcome) → ConfGives IsSomeAnd conf (held conf) o → All (λ name. Rose (before name) (now name) → ⊥) (files_read (Play conf script cells form) o) → Rose (before conf) (now conf) → ⊥
   conf_failed (OverLimit word) is none rose = none 0 conf (omega arith) rose
   conf_failed (Refused l c k) is none rose = none 0 conf (omega arith) rose
@@ -49,7 +49,7 @@ module _ (law : HasOneOutcome) (conf script : List ℕ) (cells : ℕ) (form : Fo
   conf_failed (Played setup actors phases) is none rose = is
   conf_failed Accepted is none rose = is
 
-  script_conf_failed : (system : System) (o : Outcome) → ScriptGives IsSomeAnd system cells script (held script) o → All (λ name. Rose (before name) (now name) → ⊥) (files_read (Play conf script cells form) o)
+  script_conf_failed : (system : System) (o : Outcome) → ScriptGives IsSomeAnd system schedule cells script (held script) o → All (λ name. Rose (before name) (now name) → ⊥) (files_read (Play conf script cells form) o)
       → Rose (before conf) (now conf) → ⊥
   script_conf_failed system (OverLimit word) is none rose = none 0 conf (omega arith) rose
   script_conf_failed system (BadLine n k) is none rose = none 0 conf (omega arith) rose
@@ -58,7 +58,7 @@ module _ (law : HasOneOutcome) (conf script : List ℕ) (cells : ℕ) (form : Fo
   script_conf_failed system (Refused l c k) is none rose = is
   script_conf_failed system Accepted is none rose = is
 
-  script_failed : (system : System) (o : Outcome) → ScriptGives IsSomeAnd system cells script (held script) o → All (λ name. Rose (before name) (now name) → ⊥) (files_read (Play conf script cells form) o)
+  script_failed : (system : System) (o : Outcome) → ScriptGives IsSomeAnd system schedule cells script (held script) o → All (λ name. Rose (before name) (now name) → ⊥) (files_read (Play conf script cells form) o)
       → Rose (before script) (now script) → ⊥
   script_failed system (OverLimit word) is none rose = none 1 conf (omega arith) (subst (λ (name : List ℕ). Rose (before name) (now name)) (sym is.0) rose)
   script_failed system (BadLine n k) is none rose = none 1 conf (omega arith) rose
@@ -67,7 +67,7 @@ module _ (law : HasOneOutcome) (conf script : List ℕ) (cells : ℕ) (form : Fo
   script_failed system (Refused l c k) is none rose = is
   script_failed system Accepted is none rose = is
 
-  not_in_turn : (o : Outcome) → IsRequired (Some (Play conf script cells form)) held o → All (λ name. Rose (before name) (now name) → ⊥) (files_read (Play conf script cells form) o)
+  not_in_turn : (o : Outcome) → PlayGives IsSomeAnd schedule conf script cells held o → All (λ name. Rose (before name) (now name) → ⊥) (files_read (Play conf script cells form) o)
       → MissesInTurn (Play conf script cells form) held before now → ⊥
   not_in_turn o (inl is) none (inl rose) = conf_failed o is none rose
   not_in_turn o (inl is) none (inr later) = law.accepted conf (held conf) o is later.0
@@ -78,12 +78,12 @@ module _ (law : HasOneOutcome) (conf script : List ℕ) (cells : ℕ) (form : Fo
 module _ (law : HasOneOutcome) (conf script : List ℕ) (held : Held) (before now : List ℕ → ℕ) where
   check_not_in_turn : (o : Outcome) → IsRequired (Some (Check conf (Some script))) held o → All (λ name. Rose (before name) (now name) → ⊥) (files_read (Check conf (Some script)) o)
       → MissesInTurn (Play conf script usual_cells Whole) held before now → ⊥
-  check_not_in_turn Accepted is none missed = not_in_turn law conf script usual_cells Whole held before now (Played is.0 is.1 is.2) is.3 none missed
+  check_not_in_turn Accepted is none missed = not_in_turn law true conf script usual_cells Whole held before now (Played is.0 is.1 is.2) is.3 none missed
   check_not_in_turn (Played setup actors phases) is none missed = is
-  check_not_in_turn Misused is none missed = not_in_turn law conf script usual_cells Whole held before now Misused is none missed
-  check_not_in_turn (OverLimit word) is none missed = not_in_turn law conf script usual_cells Whole held before now (OverLimit word) is none missed
-  check_not_in_turn (Refused l c k) is none missed = not_in_turn law conf script usual_cells Whole held before now (Refused l c k) is none missed
-  check_not_in_turn (BadLine n k) is none missed = not_in_turn law conf script usual_cells Whole held before now (BadLine n k) is none missed
+  check_not_in_turn Misused is none missed = not_in_turn law true conf script usual_cells Whole held before now Misused is none missed
+  check_not_in_turn (OverLimit word) is none missed = not_in_turn law true conf script usual_cells Whole held before now (OverLimit word) is none missed
+  check_not_in_turn (Refused l c k) is none missed = not_in_turn law true conf script usual_cells Whole held before now (Refused l c k) is none missed
+  check_not_in_turn (BadLine n k) is none missed = not_in_turn law true conf script usual_cells Whole held before now (BadLine n k) is none missed
 
 -- and of a check of the configuration alone
 alone_failed : (conf : List ℕ) (held : Held) (before now : List ℕ → ℕ) (o : Outcome) → CheckGives IsSomeAnd conf (held conf) o → All (λ name. Rose (before name) (now name) → ⊥) (files_read (Check conf None) o)
@@ -100,13 +100,25 @@ alone_not_in_turn : (conf : List ℕ) (held : Held) (before now : List ℕ → �
 alone_not_in_turn conf held before now o is none (inl rose) = alone_failed conf held before now o is none rose
 alone_not_in_turn conf held before now o is none (inr later) = later.1
 
+-- the files of a run are those of a play
+as_of_a_play : (conf script : List ℕ) (cells : ℕ) (form : Form) (o : Outcome) → files_read (Run conf script cells form) o ≡ files_read (Play conf script cells form) o
+as_of_a_play conf script cells form Misused = refl
+as_of_a_play conf script cells form (OverLimit word) = refl
+as_of_a_play conf script cells form (Refused l c k) = refl
+as_of_a_play conf script cells form (BadLine n k) = refl
+as_of_a_play conf script cells form (Played setup actors phases) = refl
+as_of_a_play conf script cells form Accepted = refl
+
 -- no read failed that decides the outcome
 calm : (law : HasOneOutcome) (command : Option Command) (held : Held) (before now : List ℕ → ℕ) (o : Outcome) → IsRequired command held o → NoneFailed command o before now
     → IsSomeAnd command (λ c. MissesInTurn c held before now) → ⊥
 calm law None held before now o required none missed = missed
-calm law (Some (Play conf script cells form)) held before now o required none missed = not_in_turn law conf script cells form held before now o required none missed
+calm law (Some (Play conf script cells form)) held before now o required none missed = not_in_turn law true conf script cells form held before now o required none missed
+calm law (Some (Run conf script cells form)) held before now o required none missed =
+    not_in_turn law false conf script cells form held before now o required
+    (subst (λ (names : List (List ℕ)). All (λ name. Rose (before name) (now name) → ⊥) names) (as_of_a_play conf script cells form o) none) missed
 calm law (Some (Check conf None)) held before now o required none missed = alone_not_in_turn conf held before now o required none missed
-calm law (Some (Check conf (Some script))) held before now o required none missed = check_not_in_turn law conf script held before now o required none missed
+calm law (Some (Check conf (Some script))) held before now o required none missed = check_not_in_turn law true conf script held before now o required none missed
 
 -- the answer is the one that is required, or want of memory
 pub exact : (law : HasOneOutcome) (command : Option Command) (held : Held) (before now : List ℕ → ℕ) (old new : ℕ) (P : List (List Line) → List PhaseReport → Type 0) (said : Type 0) (status : Status) → HasCause (IsPossible command held) status

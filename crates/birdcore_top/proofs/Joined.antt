@@ -10,7 +10,7 @@ use Rattle.conf_system.specs.System.{System}
 use Rattle.birdcore_top.specs.Answer.{AreMissedInTurn, FindsLackedBy, HasCause, IsEnd, IsMissed, Stops}
 use Rattle.birdcore_top.specs.Command.{Command}
 use Rattle.birdcore_top.specs.Outcome.{Accepted, Configures, Held, Outcome, IsAccepted, ConfGives, IsPossible, PlayGives, Played, ScriptGives}
-use Rattle.birdcore_top.specs.Written.{HasBegun, IfBegun}
+use Rattle.birdcore_top.specs.Written.{AreReportsOf, HasBegun, IfBegun}
 use Rattle.birdcore_top.specs.declared.status.Status.{Status}
 use Rattle.birdcore_top.specs.declared.status.Status.TheVariants.{Usage, ConfigRefused, ScriptRefused, ReadFault, WriteFault, OutOfMemory, TooLong}
 use Rattle.birdcore_top.specs.declared.status.Status.TheVariants as variants
@@ -32,20 +32,20 @@ accepted_of (Some text) system is = (system, is)
 pub rose_since : (before between now : ℕ) → before ≤ between → Rose between now → Rose before now
 rose_since before between now later rose = grind (arith, later, rose)
 
-module _ (conf script : List ℕ) (held : Held) (system : System) (playable : IsPlayable system) (accepted : IfSome (held conf) (Configures system)) where
-  pub over : (cells : ℕ) (o : Outcome) → ScriptGives IfSome system cells script (held script) o → PlayGives IfSome conf script cells held o
+module _ (conf script : List ℕ) (schedule : Bool) (held : Held) (system : System) (playable : IsPlayable system) (accepted : IfSome (held conf) (Configures system)) where
+  pub over : (cells : ℕ) (o : Outcome) → ScriptGives IfSome system schedule cells script (held script) o → PlayGives IfSome schedule conf script cells held o
   over cells o is = inr (system, playable, accepted, is)
 
   -- the script is refused
-  pub script_stopped : (status : Status) → Stops (λ o. (n : ℕ) → ScriptGives IfSome system n script (held script) o) status → Stops (λ o. (n : ℕ) → PlayGives IfSome conf script n held o) status
+  pub script_stopped : (status : Status) → Stops (λ o. (n : ℕ) → ScriptGives IfSome system schedule n script (held script) o) status → Stops (λ o. (n : ℕ) → PlayGives IfSome schedule conf script n held o) status
   script_stopped status is = record { early = is.early; cause = λ answer. let found = is.cause answer in (found.0, λ n. inr (system, playable, accepted, found.1 n), found.2) }
 
   pub in_turn : (before between now : List ℕ → ℕ) → NoneFell before between → Rose (between script) (now script) → AreMissedInTurn conf script held before now
   in_turn before between now none_fell rose = inr (accepted_of (held conf) system accepted, rose_since (before script) (between script) (now script) (none_fell script) rose)
 
 -- the configuration is refused
-pub conf_stopped : (conf script : List ℕ) (held : Held) (status : Status) → Stops (ConfGives IfSome conf (held conf)) status → Stops (λ o. (n : ℕ) → PlayGives IfSome conf script n held o) status
-conf_stopped conf script held status is = record { early = is.early; cause = λ answer. let found = is.cause answer in (found.0, λ n. inl found.1, found.2) }
+pub conf_stopped : (conf script : List ℕ) (schedule : Bool) (held : Held) (status : Status) → Stops (ConfGives IfSome conf (held conf)) status → Stops (λ o. (n : ℕ) → PlayGives IfSome schedule conf script n held o) status
+conf_stopped conf script schedule held status is = record { early = is.early; cause = λ answer. let found = is.cause answer in (found.0, λ n. inl found.1, found.2) }
 
 -- where the script isn't held
 pub lacked_script : {T : Type 0} (conf script : List ℕ) (held : Held) (lacks : List ℕ → Bool) (result : Result T Status) (made : Status) → IsErrAnd result (λ e. e ≡ made)
@@ -55,7 +55,7 @@ lacked_script conf script held lacks (Err e) made is held_conf missed = (λ lack
 
 -- what is begun of a play that may be due
 pub begun_of : (command : Option Command) (held : Held) (setup : Setup) (actors : List (List ℕ)) (phases : List (List Line)) (P : List (List Line) → List PhaseReport → Type 0)
-    → IsPossible command held (Played setup actors phases) → HasBegun setup actors phases P → IfBegun command held P
+    → IsPossible command held (Played setup actors phases) → HasBegun (AreReportsOf command setup actors) phases P → IfBegun command held P
 begun_of command held setup actors phases P possible is = record {
   setup = setup;
   actors = actors;

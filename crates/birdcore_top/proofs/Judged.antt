@@ -1,5 +1,5 @@
 -- What a file that was read whole tells of the outcome.
-use Rattle.std.proofs.Common.{◌≡◌, ℕ, ◌≤◌, List, length, Option, Some, None, refl, sym, subst}
+use Rattle.std.proofs.Common.{◌≡◌, ℕ, ◌≤◌, Bool, List, length, Option, Some, None, refl, sym, subst}
 use Rattle.std.specs.Prelude.{IfSome}
 use Rattle.outside_io.specs.Whole.{limit, IsLong, IsWhole}
 use Rattle.script_lines.specs.declared.faults.ScriptKind.{ScriptKind}
@@ -28,24 +28,24 @@ conf_stops name held bytes (faults.Refused line column kind) whole is = record {
 }
 conf_stops name held bytes faults.Memory whole is = record { early = refl; cause = λ answer. cc }
 
-module _ (system : System) (name : List ℕ) (held : Option (List ℕ)) where
+module _ (system : System) (schedule : Bool) (name : List ℕ) (held : Option (List ℕ)) where
   -- a script that is over the limit
-  pub long_stops : (status : Status) → Stops (λ o. (o ≡ OverLimit name) × IfSome held IsLong) status → Stops (λ o. (cells : ℕ) → ScriptGives IfSome system cells name held o) status
+  pub long_stops : (status : Status) → Stops (λ o. (o ≡ OverLimit name) × IfSome held IsLong) status → Stops (λ o. (cells : ℕ) → ScriptGives IfSome system schedule cells name held o) status
   long_stops status is = record {
     early = is.early;
     cause = λ answer.
         let found = is.cause answer in (
           found.0,
-          λ cells. subst (λ (o : Outcome). ScriptGives IfSome system cells name held o) (sym found.1.0) (refl, found.1.1),
+          λ cells. subst (λ (o : Outcome). ScriptGives IfSome system schedule cells name held o) (sym found.1.0) (refl, found.1.1),
           found.2,
         );
   }
 
   module _ (bytes : List ℕ) (whole : IsWhole held bytes) where
     -- a line of the script is refused
-    line_stops : (line : ℕ) (kind : ScriptKind) → script.Answers system bytes (script.Refused line kind) → Stops (λ o. (cells : ℕ) → ScriptGives IfSome system cells name held o) (ScriptRefused line kind)
+    line_stops : (line : ℕ) (kind : ScriptKind) → script.Answers system schedule bytes (script.Refused line kind) → Stops (λ o. (cells : ℕ) → ScriptGives IfSome system schedule cells name held o) (ScriptRefused line kind)
     line_stops line kind is = record { early = refl; cause = λ answer. (BadLine line kind, λ cells. judged held bytes _ whole is, (refl, refl)) }
 
-    pub script_stops : (fault : ReadFault) → script.Tells system bytes fault → Stops (λ o. (cells : ℕ) → ScriptGives IfSome system cells name held o) (line_status fault)
+    pub script_stops : (fault : ReadFault) → script.Tells system schedule bytes fault → Stops (λ o. (cells : ℕ) → ScriptGives IfSome system schedule cells name held o) (line_status fault)
     script_stops (line_faults.Refused line kind) is = line_stops line kind is
     script_stops line_faults.Memory is = record { early = refl; cause = λ answer. cc }

@@ -1,5 +1,5 @@
 -- Files that are told come to one outcome at most.
-use Rattle.std.proofs.Common.{◌≡◌, ℕ, List, Option, Some, None, refl, sym, ◌∙◌, ap, subst, arith, inl, inr}
+use Rattle.std.proofs.Common.{◌≡◌, ℕ, Bool, true, false, List, Option, Some, None, refl, sym, ◌∙◌, ap, subst, arith, inl, inr}
 use Rattle.std.specs.Prelude.{◌⊎◌, IfSome, IsSomeAnd, ⊤}
 use Rattle.conf_ast.specs.declared.kind.ConfKind.{ConfKind}
 use Rattle.core_setup.specs.Setup.{Setup}
@@ -12,7 +12,7 @@ use Rattle.sys_build.specs.Setups.{IsPlayable, setup_of}
 use Rattle.conf_system.specs.Policies.{Filter}
 use Rattle.conf_system.specs.System.{System}
 use Rattle.conf_system.specs.Texts.{IsRefusedAt, IsSystem}
-use Rattle.birdcore_top.specs.Command.{Command, Play, Check, usual_cells}
+use Rattle.birdcore_top.specs.Command.{Command, Play, Run, Check, usual_cells}
 use Rattle.birdcore_top.specs.Outcome.{Outcome, Misused, OverLimit, Refused, BadLine, Played, Accepted, Held, Configures, IsAccepted, IsCheckOf, CheckGives, ConfGives, PlayGives, ScriptGives, IsPossible, IsRequired}
 
 -- What a text says: of configurations it is one, or it is refused, at one place for one reason; of scripts it has one answer. This is what the laws of texts say.
@@ -20,7 +20,7 @@ pub record SaysOnce : Type 0 where
   pub configurations_agree : (text : List ℕ) (a b : System) → IsSystem text a → IsSystem text b → a ≡ b
   pub accepted_or_refused : (text : List ℕ) (system : System) (line column : ℕ) (kind : ConfKind) → IsSystem text system → IsRefusedAt text line column kind → ⊥
   pub refusals_agree : (text : List ℕ) (l m c d : ℕ) (k j : ConfKind) → IsRefusedAt text l c k → IsRefusedAt text m d j → (l ≡ m) × (c ≡ d) × (k ≡ j)
-  pub answers_agree : (system : System) (text : List ℕ) (a b : script_answers.Answer) → Answers system text a → Answers system text b → a ≡ b
+  pub answers_agree : (system : System) (schedule : Bool) (text : List ℕ) (a b : script_answers.Answer) → Answers system schedule text a → Answers system schedule text b → a ≡ b
 
 same_place : (l m c d : ℕ) (k j : ConfKind) → (l ≡ m) × (c ≡ d) × (k ≡ j) → Refused l c k ≡ Refused m d j
 same_place l m c d k j same =
@@ -77,29 +77,29 @@ module _ (once : SaysOnce) where
   accepted_goes_on name file system Accepted is may = may
 
   -- two outcomes of one script over one configuration
-  script_once : (system : System) (cells : ℕ) (name text : List ℕ) (o p : Outcome) → ScriptGives IsSomeAnd system cells name (Some text) o → ScriptGives IfSome system cells name (Some text) p → p ≡ o
-  script_once system cells name text (OverLimit word) (OverLimit other) is may = ap OverLimit (may.0 ∙ sym is.0)
-  script_once system cells name text (OverLimit word) (BadLine m j) is may = absurd (omega (arith, is.1, may.0))
-  script_once system cells name text (OverLimit word) (Played setup actors phases) is may = absurd (omega (arith, is.1, may.told.0))
-  script_once system cells name text (BadLine n k) (OverLimit other) is may = absurd (omega (arith, may.1, is.0))
-  script_once system cells name text (BadLine n k) (BadLine m j) is may = same_line m n j k (once.answers_agree system text _ _ may.1 is.1)
-  script_once system cells name text (BadLine n k) (Played setup actors phases) is may = absurd (refused_or_played n k phases actors may.queries may.conditions (once.answers_agree system text _ _ is.1 may.told.1))
-  script_once system cells name text (Played setup actors phases) (OverLimit other) is may = absurd (omega (arith, may.1, is.told.0))
-  script_once system cells name text (Played setup actors phases) (BadLine m j) is may = absurd (refused_or_played m j phases actors is.queries is.conditions (once.answers_agree system text _ _ may.1 is.told.1))
-  script_once system cells name text (Played setup actors phases) (Played other actors2 phases2) is may =
-      same_play system cells other setup phases2 phases actors2 actors may.queries is.queries may.conditions is.conditions may.setup_is is.setup_is (once.answers_agree system text _ _ may.told.1 is.told.1)
-  script_once system cells name text Misused p is may = absurd is
-  script_once system cells name text (Refused l c k) p is may = absurd is
-  script_once system cells name text Accepted p is may = absurd is
-  script_once system cells name text (OverLimit word) Misused is may = absurd may
-  script_once system cells name text (OverLimit word) (Refused l c j) is may = absurd may
-  script_once system cells name text (OverLimit word) Accepted is may = absurd may
-  script_once system cells name text (BadLine n k) Misused is may = absurd may
-  script_once system cells name text (BadLine n k) (Refused l c j) is may = absurd may
-  script_once system cells name text (BadLine n k) Accepted is may = absurd may
-  script_once system cells name text (Played setup actors phases) Misused is may = absurd may
-  script_once system cells name text (Played setup actors phases) (Refused l c j) is may = absurd may
-  script_once system cells name text (Played setup actors phases) Accepted is may = absurd may
+  script_once : (system : System) (schedule : Bool) (cells : ℕ) (name text : List ℕ) (o p : Outcome) → ScriptGives IsSomeAnd system schedule cells name (Some text) o → ScriptGives IfSome system schedule cells name (Some text) p → p ≡ o
+  script_once system schedule cells name text (OverLimit word) (OverLimit other) is may = ap OverLimit (may.0 ∙ sym is.0)
+  script_once system schedule cells name text (OverLimit word) (BadLine m j) is may = absurd (omega (arith, is.1, may.0))
+  script_once system schedule cells name text (OverLimit word) (Played setup actors phases) is may = absurd (omega (arith, is.1, may.told.0))
+  script_once system schedule cells name text (BadLine n k) (OverLimit other) is may = absurd (omega (arith, may.1, is.0))
+  script_once system schedule cells name text (BadLine n k) (BadLine m j) is may = same_line m n j k (once.answers_agree system schedule text _ _ may.1 is.1)
+  script_once system schedule cells name text (BadLine n k) (Played setup actors phases) is may = absurd (refused_or_played n k phases actors may.queries may.conditions (once.answers_agree system schedule text _ _ is.1 may.told.1))
+  script_once system schedule cells name text (Played setup actors phases) (OverLimit other) is may = absurd (omega (arith, may.1, is.told.0))
+  script_once system schedule cells name text (Played setup actors phases) (BadLine m j) is may = absurd (refused_or_played m j phases actors is.queries is.conditions (once.answers_agree system schedule text _ _ may.1 is.told.1))
+  script_once system schedule cells name text (Played setup actors phases) (Played other actors2 phases2) is may =
+      same_play system cells other setup phases2 phases actors2 actors may.queries is.queries may.conditions is.conditions may.setup_is is.setup_is (once.answers_agree system schedule text _ _ may.told.1 is.told.1)
+  script_once system schedule cells name text Misused p is may = absurd is
+  script_once system schedule cells name text (Refused l c k) p is may = absurd is
+  script_once system schedule cells name text Accepted p is may = absurd is
+  script_once system schedule cells name text (OverLimit word) Misused is may = absurd may
+  script_once system schedule cells name text (OverLimit word) (Refused l c j) is may = absurd may
+  script_once system schedule cells name text (OverLimit word) Accepted is may = absurd may
+  script_once system schedule cells name text (BadLine n k) Misused is may = absurd may
+  script_once system schedule cells name text (BadLine n k) (Refused l c j) is may = absurd may
+  script_once system schedule cells name text (BadLine n k) Accepted is may = absurd may
+  script_once system schedule cells name text (Played setup actors phases) Misused is may = absurd may
+  script_once system schedule cells name text (Played setup actors phases) (Refused l c j) is may = absurd may
+  script_once system schedule cells name text (Played setup actors phases) Accepted is may = absurd may
 
   -- an outcome that is required rests on a file that is told
   no_conf : (name : List ℕ) (o : Outcome) → ConfGives IsSomeAnd name None o → ⊥
@@ -123,63 +123,63 @@ module _ (once : SaysOnce) where
   accepted_not_required name None o is accepted = no_conf name o is
   accepted_not_required name (Some file) o is accepted = accepted_goes_on name file accepted.0 o accepted.1 (as_told name file o is)
 
-  no_script : (system : System) (cells : ℕ) (name : List ℕ) (o : Outcome) → ScriptGives IsSomeAnd system cells name None o → ⊥
-  no_script system cells name (OverLimit word) is = is.1
-  no_script system cells name (BadLine n k) is = is
-  no_script system cells name (Played setup actors phases) is = is.told
-  no_script system cells name Accepted is = is
-  no_script system cells name Misused is = is
-  no_script system cells name (Refused l c k) is = is
+  no_script : (system : System) (schedule : Bool) (cells : ℕ) (name : List ℕ) (o : Outcome) → ScriptGives IsSomeAnd system schedule cells name None o → ⊥
+  no_script system schedule cells name (OverLimit word) is = is.1
+  no_script system schedule cells name (BadLine n k) is = is
+  no_script system schedule cells name (Played setup actors phases) is = is.told
+  no_script system schedule cells name Accepted is = is
+  no_script system schedule cells name Misused is = is
+  no_script system schedule cells name (Refused l c k) is = is
 
-  scripts_once : (system : System) (cells : ℕ) (name : List ℕ) (script : Option (List ℕ)) (o p : Outcome) → ScriptGives IsSomeAnd system cells name script o
-      → ScriptGives IfSome system cells name script p → p ≡ o
-  scripts_once system cells name None o p is may = absurd (no_script system cells name o is)
-  scripts_once system cells name (Some text) o p is may = script_once system cells name text o p is may
+  scripts_once : (system : System) (schedule : Bool) (cells : ℕ) (name : List ℕ) (script : Option (List ℕ)) (o p : Outcome) → ScriptGives IsSomeAnd system schedule cells name script o
+      → ScriptGives IfSome system schedule cells name script p → p ≡ o
+  scripts_once system schedule cells name None o p is may = absurd (no_script system schedule cells name o is)
+  scripts_once system schedule cells name (Some text) o p is may = script_once system schedule cells name text o p is may
 
-  plays_once : (conf script : List ℕ) (cells : ℕ) (first second : Option (List ℕ)) (o p : Outcome)
-      → ConfGives IsSomeAnd conf first o ⊎ ((system : System) × IsPlayable system × IsSomeAnd first (Configures system) × ScriptGives IsSomeAnd system cells script second o)
-      → ConfGives IfSome conf first p ⊎ ((system : System) × IsPlayable system × IfSome first (Configures system) × ScriptGives IfSome system cells script second p) → p ≡ o
-  plays_once conf script cells None second o p (inl is) may = absurd (no_conf conf o is)
-  plays_once conf script cells None second o p (inr is) may = absurd is.2
-  plays_once conf script cells (Some file) second o p (inl is) (inl may) = conf_once conf file o p is may
-  plays_once conf script cells (Some file) second o p (inl is) (inr may) = absurd (accepted_goes_on conf file may.0 o may.2 (as_told conf file o is))
-  plays_once conf script cells (Some file) second o p (inr is) (inl may) = absurd (accepted_goes_on conf file is.0 p is.2 may)
-  plays_once conf script cells (Some file) second o p (inr is) (inr may) =
+  plays_once : (conf script : List ℕ) (schedule : Bool) (cells : ℕ) (first second : Option (List ℕ)) (o p : Outcome)
+      → ConfGives IsSomeAnd conf first o ⊎ ((system : System) × IsPlayable system × IsSomeAnd first (Configures system) × ScriptGives IsSomeAnd system schedule cells script second o)
+      → ConfGives IfSome conf first p ⊎ ((system : System) × IsPlayable system × IfSome first (Configures system) × ScriptGives IfSome system schedule cells script second p) → p ≡ o
+  plays_once conf script schedule cells None second o p (inl is) may = absurd (no_conf conf o is)
+  plays_once conf script schedule cells None second o p (inr is) may = absurd is.2
+  plays_once conf script schedule cells (Some file) second o p (inl is) (inl may) = conf_once conf file o p is may
+  plays_once conf script schedule cells (Some file) second o p (inl is) (inr may) = absurd (accepted_goes_on conf file may.0 o may.2 (as_told conf file o is))
+  plays_once conf script schedule cells (Some file) second o p (inr is) (inl may) = absurd (accepted_goes_on conf file is.0 p is.2 may)
+  plays_once conf script schedule cells (Some file) second o p (inr is) (inr may) =
       let same : may.0 ≡ is.0 = once.configurations_agree file may.0 is.0 may.2.1 is.2.1 in
-      scripts_once is.0 cells script second o p is.3 (subst (λ (s : System). ScriptGives IfSome s cells script second p) same may.3)
+      scripts_once is.0 schedule cells script second o p is.3 (subst (λ (s : System). ScriptGives IfSome s schedule cells script second p) same may.3)
 
-  plays_agree : (conf script : List ℕ) (cells : ℕ) (held : Held) (o p : Outcome) → PlayGives IsSomeAnd conf script cells held o → PlayGives IfSome conf script cells held p → p ≡ o
-  plays_agree conf script cells held o p is may = plays_once conf script cells (held conf) (held script) o p is may
+  plays_agree : (conf script : List ℕ) (schedule : Bool) (cells : ℕ) (held : Held) (o p : Outcome) → PlayGives IsSomeAnd schedule conf script cells held o → PlayGives IfSome schedule conf script cells held p → p ≡ o
+  plays_agree conf script schedule cells held o p is may = plays_once conf script schedule cells (held conf) (held script) o p is may
 
-  checks_agree : (conf script : List ℕ) (held : Held) (o p : Outcome) → IsCheckOf (PlayGives IsSomeAnd conf script usual_cells held) o → IsCheckOf (PlayGives IfSome conf script usual_cells held) p → p ≡ o
-  checks_agree conf script held Misused Misused is may = plays_agree conf script usual_cells held Misused Misused is may
-  checks_agree conf script held Misused (OverLimit other) is may = plays_agree conf script usual_cells held Misused (OverLimit other) is may
-  checks_agree conf script held Misused (Refused m d j) is may = plays_agree conf script usual_cells held Misused (Refused m d j) is may
-  checks_agree conf script held Misused (BadLine m j) is may = plays_agree conf script usual_cells held Misused (BadLine m j) is may
-  checks_agree conf script held Misused Accepted is may = absurd (played_or Misused may.0 may.1 may.2 tt (plays_agree conf script usual_cells held Misused (Played may.0 may.1 may.2) is may.3))
+  checks_agree : (conf script : List ℕ) (held : Held) (o p : Outcome) → IsCheckOf (PlayGives IsSomeAnd true conf script usual_cells held) o → IsCheckOf (PlayGives IfSome true conf script usual_cells held) p → p ≡ o
+  checks_agree conf script held Misused Misused is may = plays_agree conf script true usual_cells held Misused Misused is may
+  checks_agree conf script held Misused (OverLimit other) is may = plays_agree conf script true usual_cells held Misused (OverLimit other) is may
+  checks_agree conf script held Misused (Refused m d j) is may = plays_agree conf script true usual_cells held Misused (Refused m d j) is may
+  checks_agree conf script held Misused (BadLine m j) is may = plays_agree conf script true usual_cells held Misused (BadLine m j) is may
+  checks_agree conf script held Misused Accepted is may = absurd (played_or Misused may.0 may.1 may.2 tt (plays_agree conf script true usual_cells held Misused (Played may.0 may.1 may.2) is may.3))
   checks_agree conf script held Misused (Played setup actors phases) is may = absurd may
-  checks_agree conf script held (OverLimit word) Misused is may = plays_agree conf script usual_cells held (OverLimit word) Misused is may
-  checks_agree conf script held (OverLimit word) (OverLimit other) is may = plays_agree conf script usual_cells held (OverLimit word) (OverLimit other) is may
-  checks_agree conf script held (OverLimit word) (Refused m d j) is may = plays_agree conf script usual_cells held (OverLimit word) (Refused m d j) is may
-  checks_agree conf script held (OverLimit word) (BadLine m j) is may = plays_agree conf script usual_cells held (OverLimit word) (BadLine m j) is may
-  checks_agree conf script held (OverLimit word) Accepted is may = absurd (played_or (OverLimit word) may.0 may.1 may.2 tt (plays_agree conf script usual_cells held (OverLimit word) (Played may.0 may.1 may.2) is may.3))
+  checks_agree conf script held (OverLimit word) Misused is may = plays_agree conf script true usual_cells held (OverLimit word) Misused is may
+  checks_agree conf script held (OverLimit word) (OverLimit other) is may = plays_agree conf script true usual_cells held (OverLimit word) (OverLimit other) is may
+  checks_agree conf script held (OverLimit word) (Refused m d j) is may = plays_agree conf script true usual_cells held (OverLimit word) (Refused m d j) is may
+  checks_agree conf script held (OverLimit word) (BadLine m j) is may = plays_agree conf script true usual_cells held (OverLimit word) (BadLine m j) is may
+  checks_agree conf script held (OverLimit word) Accepted is may = absurd (played_or (OverLimit word) may.0 may.1 may.2 tt (plays_agree conf script true usual_cells held (OverLimit word) (Played may.0 may.1 may.2) is may.3))
   checks_agree conf script held (OverLimit word) (Played setup actors phases) is may = absurd may
-  checks_agree conf script held (Refused l c k) Misused is may = plays_agree conf script usual_cells held (Refused l c k) Misused is may
-  checks_agree conf script held (Refused l c k) (OverLimit other) is may = plays_agree conf script usual_cells held (Refused l c k) (OverLimit other) is may
-  checks_agree conf script held (Refused l c k) (Refused m d j) is may = plays_agree conf script usual_cells held (Refused l c k) (Refused m d j) is may
-  checks_agree conf script held (Refused l c k) (BadLine m j) is may = plays_agree conf script usual_cells held (Refused l c k) (BadLine m j) is may
-  checks_agree conf script held (Refused l c k) Accepted is may = absurd (played_or (Refused l c k) may.0 may.1 may.2 tt (plays_agree conf script usual_cells held (Refused l c k) (Played may.0 may.1 may.2) is may.3))
+  checks_agree conf script held (Refused l c k) Misused is may = plays_agree conf script true usual_cells held (Refused l c k) Misused is may
+  checks_agree conf script held (Refused l c k) (OverLimit other) is may = plays_agree conf script true usual_cells held (Refused l c k) (OverLimit other) is may
+  checks_agree conf script held (Refused l c k) (Refused m d j) is may = plays_agree conf script true usual_cells held (Refused l c k) (Refused m d j) is may
+  checks_agree conf script held (Refused l c k) (BadLine m j) is may = plays_agree conf script true usual_cells held (Refused l c k) (BadLine m j) is may
+  checks_agree conf script held (Refused l c k) Accepted is may = absurd (played_or (Refused l c k) may.0 may.1 may.2 tt (plays_agree conf script true usual_cells held (Refused l c k) (Played may.0 may.1 may.2) is may.3))
   checks_agree conf script held (Refused l c k) (Played setup actors phases) is may = absurd may
-  checks_agree conf script held (BadLine n k) Misused is may = plays_agree conf script usual_cells held (BadLine n k) Misused is may
-  checks_agree conf script held (BadLine n k) (OverLimit other) is may = plays_agree conf script usual_cells held (BadLine n k) (OverLimit other) is may
-  checks_agree conf script held (BadLine n k) (Refused m d j) is may = plays_agree conf script usual_cells held (BadLine n k) (Refused m d j) is may
-  checks_agree conf script held (BadLine n k) (BadLine m j) is may = plays_agree conf script usual_cells held (BadLine n k) (BadLine m j) is may
-  checks_agree conf script held (BadLine n k) Accepted is may = absurd (played_or (BadLine n k) may.0 may.1 may.2 tt (plays_agree conf script usual_cells held (BadLine n k) (Played may.0 may.1 may.2) is may.3))
+  checks_agree conf script held (BadLine n k) Misused is may = plays_agree conf script true usual_cells held (BadLine n k) Misused is may
+  checks_agree conf script held (BadLine n k) (OverLimit other) is may = plays_agree conf script true usual_cells held (BadLine n k) (OverLimit other) is may
+  checks_agree conf script held (BadLine n k) (Refused m d j) is may = plays_agree conf script true usual_cells held (BadLine n k) (Refused m d j) is may
+  checks_agree conf script held (BadLine n k) (BadLine m j) is may = plays_agree conf script true usual_cells held (BadLine n k) (BadLine m j) is may
+  checks_agree conf script held (BadLine n k) Accepted is may = absurd (played_or (BadLine n k) may.0 may.1 may.2 tt (plays_agree conf script true usual_cells held (BadLine n k) (Played may.0 may.1 may.2) is may.3))
   checks_agree conf script held (BadLine n k) (Played setup actors phases) is may = absurd may
-  checks_agree conf script held Accepted Misused is may = absurd (played_or Misused is.0 is.1 is.2 tt (sym (plays_agree conf script usual_cells held (Played is.0 is.1 is.2) Misused is.3 may)))
-  checks_agree conf script held Accepted (OverLimit other) is may = absurd (played_or (OverLimit other) is.0 is.1 is.2 tt (sym (plays_agree conf script usual_cells held (Played is.0 is.1 is.2) (OverLimit other) is.3 may)))
-  checks_agree conf script held Accepted (Refused m d j) is may = absurd (played_or (Refused m d j) is.0 is.1 is.2 tt (sym (plays_agree conf script usual_cells held (Played is.0 is.1 is.2) (Refused m d j) is.3 may)))
-  checks_agree conf script held Accepted (BadLine m j) is may = absurd (played_or (BadLine m j) is.0 is.1 is.2 tt (sym (plays_agree conf script usual_cells held (Played is.0 is.1 is.2) (BadLine m j) is.3 may)))
+  checks_agree conf script held Accepted Misused is may = absurd (played_or Misused is.0 is.1 is.2 tt (sym (plays_agree conf script true usual_cells held (Played is.0 is.1 is.2) Misused is.3 may)))
+  checks_agree conf script held Accepted (OverLimit other) is may = absurd (played_or (OverLimit other) is.0 is.1 is.2 tt (sym (plays_agree conf script true usual_cells held (Played is.0 is.1 is.2) (OverLimit other) is.3 may)))
+  checks_agree conf script held Accepted (Refused m d j) is may = absurd (played_or (Refused m d j) is.0 is.1 is.2 tt (sym (plays_agree conf script true usual_cells held (Played is.0 is.1 is.2) (Refused m d j) is.3 may)))
+  checks_agree conf script held Accepted (BadLine m j) is may = absurd (played_or (BadLine m j) is.0 is.1 is.2 tt (sym (plays_agree conf script true usual_cells held (Played is.0 is.1 is.2) (BadLine m j) is.3 may)))
   checks_agree conf script held Accepted Accepted is may = refl
   checks_agree conf script held Accepted (Played setup actors phases) is may = absurd may
   checks_agree conf script held (Played setup actors phases) p is may = absurd is
@@ -223,6 +223,7 @@ module _ (once : SaysOnce) where
   -- What may be due is what is required.
   pub one_outcome : (command : Option Command) (held : Held) (o p : Outcome) → IsRequired command held o → IsPossible command held p → p ≡ o
   one_outcome None held o p is may = may ∙ sym is
-  one_outcome (Some (Play conf script cells form)) held o p is may = plays_agree conf script cells held o p is may
+  one_outcome (Some (Play conf script cells form)) held o p is may = plays_agree conf script true cells held o p is may
+  one_outcome (Some (Run conf script cells form)) held o p is may = plays_agree conf script false cells held o p is may
   one_outcome (Some (Check conf None)) held o p is may = alone_agree conf (held conf) o p is may
   one_outcome (Some (Check conf (Some script))) held o p is may = checks_agree conf script held o p is may

@@ -15,9 +15,9 @@ use Rattle.report.specs.declared.phase.PhaseReport.{PhaseReport}
 use Rattle.script_lines.specs.declared.script.Line.{Line}
 use Rattle.birdcore_top.specs.Answer.{Answers, FindsLacked, HasCause, IsEnd, MissesInTurn, Stops, is_early, writes}
 use Rattle.birdcore_top.specs.Answered.{Answered, ShelfSeen, SinkSeen}
-use Rattle.birdcore_top.specs.Command.{Command, Play, Check, conf_of, form_of, script_of, usual_cells}
+use Rattle.birdcore_top.specs.Command.{Command, Play, Run, Check, conf_of, form_of, script_of, usual_cells}
 use Rattle.birdcore_top.specs.Outcome.{Held, Outcome, Misused, OverLimit, Refused, BadLine, Played, Accepted, ConfGives, PlayGives, IsPossible}
-use Rattle.birdcore_top.specs.Written.{HasBegun, HasPlayed, IfBegun, IfPlayed, accepted_text, text_so_far}
+use Rattle.birdcore_top.specs.Written.{AreReportsOf, HasBegun, HasPlayed, IfBegun, IfPlayed, accepted_text, text_so_far}
 use Rattle.birdcore_top.specs.declared.status.Status.{Status}
 use Rattle.birdcore_top.specs.declared.status.Status.TheVariants.{Usage, ConfigRefused, ScriptRefused, ReadFault, WriteFault, OutOfMemory, TooLong}
 use Rattle.birdcore_top.specs.declared.status.Status.TheVariants as variants
@@ -50,6 +50,8 @@ nothing_asked shelf sink = record {
 never_misused : (command : Command) (held : Held) → IsPossible (Some command) held Misused → ⊥
 never_misused (Play conf script cells form) held (inl is) = is
 never_misused (Play conf script cells form) held (inr is) = is.3
+never_misused (Run conf script cells form) held (inl is) = is
+never_misused (Run conf script cells form) held (inr is) = is.3
 never_misused (Check conf None) held is = is
 never_misused (Check conf (Some script)) held (inl is) = is
 never_misused (Check conf (Some script)) held (inr is) = is.3
@@ -76,13 +78,14 @@ AreHeld command lacks = (IsTrue (lacks (conf_of command)) → ⊥) × IfSome (sc
 
 held_all : (command : Command) (lacks : List ℕ → Bool) (held : Held) (status : Status) → AreHeld command lacks → FindsLacked (Some command) lacks held status
 held_all (Play conf script cells form) lacks held status are = record { conf_lacked = λ lacking. absurd (are.0 lacking); script_lacked = λ lacking. absurd (are.1 lacking) }
+held_all (Run conf script cells form) lacks held status are = record { conf_lacked = λ lacking. absurd (are.0 lacking); script_lacked = λ lacking. absurd (are.1 lacking) }
 held_all (Check conf None) lacks held status are = record { conf_lacked = λ lacking. absurd (are.0 lacking); script_lacked = tt }
 held_all (Check conf (Some script)) lacks held status are = record { conf_lacked = λ lacking. absurd (are.0 lacking); script_lacked = λ lacking. absurd (are.1 lacking) }
 
 -- ---- what stops a play stops a check
 
 -- an outcome that a play answers before it writes
-checked_so : (conf script : List ℕ) (held : Held) (o : Outcome) (status : Status) → is_early status ≡ true → PlayGives IfSome conf script usual_cells held o → Answers o status
+checked_so : (conf script : List ℕ) (held : Held) (o : Outcome) (status : Status) → is_early status ≡ true → PlayGives IfSome true conf script usual_cells held o → Answers o status
     → (q : Outcome) × IsPossible (Some (Check conf (Some script))) held q × Answers q status
 checked_so conf script held Misused status early gives answers = (Misused, gives, answers)
 checked_so conf script held (OverLimit name) status early gives answers = (OverLimit name, gives, answers)
@@ -99,11 +102,15 @@ checked_so conf script held (Played setup actors phases) WriteFault early gives 
 checked_so conf script held (Played setup actors phases) OutOfMemory early gives answers = absurd answers
 checked_so conf script held (Played setup actors phases) (TooLong name) early gives answers = absurd answers
 
-pub stops_play : (conf script : List ℕ) (cells : ℕ) (form : Form) (held : Held) (status : Status) → Stops (λ o. (n : ℕ) → PlayGives IfSome conf script n held o) status
+pub stops_play : (conf script : List ℕ) (cells : ℕ) (form : Form) (held : Held) (status : Status) → Stops (λ o. (n : ℕ) → PlayGives IfSome true conf script n held o) status
     → Stops (IsPossible (Some (Play conf script cells form)) held) status
 stops_play conf script cells form held status is = record { early = is.early; cause = λ answer. let found = is.cause answer in (found.0, found.1 cells, found.2) }
 
-pub stops_check : (conf script : List ℕ) (held : Held) (status : Status) → Stops (λ o. (n : ℕ) → PlayGives IfSome conf script n held o) status
+pub stops_run : (conf script : List ℕ) (cells : ℕ) (form : Form) (held : Held) (status : Status) → Stops (λ o. (n : ℕ) → PlayGives IfSome false conf script n held o) status
+    → Stops (IsPossible (Some (Run conf script cells form)) held) status
+stops_run conf script cells form held status is = record { early = is.early; cause = λ answer. let found = is.cause answer in (found.0, found.1 cells, found.2) }
+
+pub stops_check : (conf script : List ℕ) (held : Held) (status : Status) → Stops (λ o. (n : ℕ) → PlayGives IfSome true conf script n held o) status
     → Stops (IsPossible (Some (Check conf (Some script))) held) status
 stops_check conf script held status is = record { early = is.early; cause = λ answer. let found = is.cause answer in checked_so conf script held found.0 status is.early (found.1 usual_cells) found.2 }
 
@@ -174,7 +181,7 @@ module _ (law : HasOneOutcome) (command : Command) (shelf shelf_after : ShelfSee
       }
 
   module _ (setup : Setup) (actors : List (List ℕ)) (phases : List (List Line)) (possible : IsPossible (Some command) shelf.held (Played setup actors phases)) where
-    played_of : (P : List PhaseReport → Type 0) → HasPlayed setup actors phases P → IfPlayed (Some command) shelf.held P
+    played_of : (P : List PhaseReport → Type 0) → HasPlayed (AreReportsOf (Some command) setup actors) phases P → IfPlayed (Some command) shelf.held P
     played_of P is = record {
       setup = setup;
       actors = actors;
@@ -187,9 +194,9 @@ module _ (law : HasOneOutcome) (command : Command) (shelf shelf_after : ShelfSee
 
     -- The files are played, to the report's end or until the sink fails or memory is refused.
     pub ended : AreHeld command shelf.lacks → (status : Status) → IsEnd status
-        → (status ≡ variants.Ok → HasPlayed setup actors phases (λ reports. Appends sink.contents sink_after.contents (report_text (form_of (Some command)) reports)))
-        → (status ≡ WriteFault → HasBegun setup actors phases (λ more reports. WritesFront sink.contents sink_after.contents (text_so_far (form_of (Some command)) more reports)))
-        → (status ≡ OutOfMemory → HasBegun setup actors phases (λ more reports. Appends sink.contents sink_after.contents (flat_map (text_in (form_of (Some command))) reports)))
+        → (status ≡ variants.Ok → HasPlayed (AreReportsOf (Some command) setup actors) phases (λ reports. Appends sink.contents sink_after.contents (report_text (form_of (Some command)) reports)))
+        → (status ≡ WriteFault → HasBegun (AreReportsOf (Some command) setup actors) phases (λ more reports. WritesFront sink.contents sink_after.contents (text_so_far (form_of (Some command)) more reports)))
+        → (status ≡ OutOfMemory → HasBegun (AreReportsOf (Some command) setup actors) phases (λ more reports. Appends sink.contents sink_after.contents (flat_map (text_in (form_of (Some command))) reports)))
         → (status ≡ WriteFault → Rose sink.faults sink_after.faults) → Answered (Some command) shelf shelf_after sink sink_after status
     ended absent status end report front begun write =
         let cause = end_has_cause (Some command) shelf.held setup actors phases possible status end in

@@ -124,7 +124,7 @@ module _ {J : Type 0} (verdict : J → Net → Route → Verdict) (setup : Setup
 
     -- the sink failed in the report of a phase
     pub cut_in_phase : (all more : List (List Line)) → all ≡ (phases ++ lines ∷ []) ++ more → WritesFront b c (text_in form report)
-        → HasBegun setup actors all (λ left reports. WritesFront a c (text_so_far form left reports))
+        → HasBegun (ArePlayed setup actors) all (λ left reports. WritesFront a c (text_so_far form left reports))
     cut_in_phase all more whole text = record {
       first = phases ++ lines ∷ [];
       more = more;
@@ -136,7 +136,7 @@ module _ {J : Type 0} (verdict : J → Net → Route → Verdict) (setup : Setup
 
   module _ (form : Form) (phases : List (List Line)) (now : Core J) (a b c : Option (List ℕ)) (written : HasWritten verdict setup actors phases form now a b) where
     -- nothing more is written
-    pub cut_between : (all more : List (List Line)) → all ≡ phases ++ more → Keeps b c → HasBegun setup actors all (λ left reports. Appends a c (flat_map (text_in form) reports))
+    pub cut_between : (all more : List (List Line)) → all ≡ phases ++ more → Keeps b c → HasBegun (ArePlayed setup actors) all (λ left reports. Appends a c (flat_map (text_in form) reports))
     cut_between all more whole kept = record {
       first = phases;
       more = more;
@@ -147,7 +147,7 @@ module _ {J : Type 0} (verdict : J → Net → Route → Verdict) (setup : Setup
     }
 
     -- all is written
-    pub all_written : Appends b c (codes "end\n") → HasPlayed setup actors phases (λ reports. Appends a c (report_text form reports))
+    pub all_written : Appends b c (codes "end\n") → HasPlayed (ArePlayed setup actors) phases (λ reports. Appends a c (report_text form reports))
     all_written text = record {
       reports = written.reports;
       played = is_play phases written.reports now written.played;
@@ -155,7 +155,7 @@ module _ {J : Type 0} (verdict : J → Net → Route → Verdict) (setup : Setup
     }
 
     -- the sink failed in the last line
-    pub cut_at_end : WritesFront b c (codes "end\n") → HasBegun setup actors phases (λ left reports. WritesFront a c (text_so_far form left reports))
+    pub cut_at_end : WritesFront b c (codes "end\n") → HasBegun (ArePlayed setup actors) phases (λ left reports. WritesFront a c (text_so_far form left reports))
     cut_at_end text = record {
       first = phases;
       more = [];
@@ -166,7 +166,7 @@ module _ {J : Type 0} (verdict : J → Net → Route → Verdict) (setup : Setup
     }
 
 -- nothing is played, nothing is written
-pub not_begun : (form : Form) (setup : Setup) (actors : List (List ℕ)) (phases : List (List Line)) (a : Option (List ℕ)) → HasBegun setup actors phases (λ left reports. Appends a a (flat_map (text_in form) reports))
+pub not_begun : (form : Form) (setup : Setup) (actors : List (List ℕ)) (phases : List (List Line)) (a : Option (List ℕ)) → HasBegun (ArePlayed setup actors) phases (λ left reports. Appends a a (flat_map (text_in form) reports))
 not_begun form setup actors phases a = record {
   first = [];
   more = phases;
@@ -175,3 +175,19 @@ not_begun form setup actors phases a = record {
   played = record { printed = []; plays = tt; are = tt };
   said = Appends-nil a;
 }
+
+-- ---- by what else their reports are
+
+module _ (Are Others : List (List Line) → List PhaseReport → Type 0) (law : (phases : List (List Line)) (reports : List PhaseReport) → Are phases reports → Others phases reports) where
+  pub played_so : (phases : List (List Line)) (P : List PhaseReport → Type 0) → HasPlayed Are phases P → HasPlayed Others phases P
+  played_so phases P is = record { reports = is.reports; played = law phases is.reports is.played; said = is.said }
+
+  pub begun_so : (phases : List (List Line)) (P : List (List Line) → List PhaseReport → Type 0) → HasBegun Are phases P → HasBegun Others phases P
+  begun_so phases P is = record {
+    first = is.first;
+    more = is.more;
+    reports = is.reports;
+    whole = is.whole;
+    played = law is.first is.reports is.played;
+    said = is.said;
+  }

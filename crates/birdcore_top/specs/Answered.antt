@@ -3,7 +3,7 @@
 -- Not modelled: what a shelf or a sink doesn't tell; when memory is refused, which may come in place
 -- of any answer.
 -- From: own.
--- Example: the table of statuses in the README, for both commands.
+-- Example: the table of statuses in the README, for each command.
 use Rattle.std.specs.Prelude.{◌≡◌, ◌⊎◌, ◌↔◌, ℕ, Bool, false, List, Option, None, IsSomeAnd}
 use Rattle.std.specs.Io.KnownBytes.{Appends, Keeps}
 use Rattle.std.specs.List.{flat_map}
@@ -59,7 +59,8 @@ pub record Answered
   -- A write fault is answered only where the output failed.
   pub write : status ≡ WriteFault → Rose sink.faults sink_after.faults
   -- With the status 0 the report is written, of all phases and to its end, in the form that the
-  -- words ask for; of a check `ok` and a newline.
+  -- words ask for: of a play the one to which the machine comes, of a run that of some legal phases,
+  -- one for each of the script; of a check `ok` and a newline.
   pub report : status ≡ Ok
       → IfPlayed command shelf.held
       (λ reports.

@@ -1,13 +1,14 @@
 -- What a command and its files come to (`Outcome`, by `IsPossible` and `IsRequired`): the one thing
 -- that the program has to answer; which files decide it (`files_read`). A check comes to what a play
--- of the same files does, but that they are accepted in place of played.
+-- of the same files does, but that they are accepted in place of played; and so does a run, but that
+-- a `!` line of its script is refused.
 -- Not modelled: what files hold that isn't told: `IsPossible` asks nothing of them, and
 -- `IsRequired` is false of all that rests on them. Over a shelf that tells its files both say the
 -- same (the law `files_have_one_outcome`).
 -- From: own.
--- Example: a refused configuration decides alone, whatever the script is, and alike for both
+-- Example: a refused configuration decides alone, whatever the script is, and alike for all
 -- commands.
-use Rattle.std.specs.Prelude.{◌≡◌, ℕ, ◌≤◌, ◌⊎◌, List, [], ◌∷◌, length, Option, Some, None, IfSome, IsSomeAnd}
+use Rattle.std.specs.Prelude.{◌≡◌, ℕ, ◌≤◌, ◌⊎◌, Bool, true, false, List, [], ◌∷◌, length, Option, Some, None, IfSome, IsSomeAnd}
 use Rattle.conf_ast.specs.declared.kind.ConfKind.{ConfKind}
 use Rattle.outside_io.specs.Whole.{limit, IsLong}
 use Rattle.core_setup.specs.Setup.{Setup}
@@ -20,7 +21,7 @@ use Rattle.sys_build.specs.Setups.{IsPlayable, setup_of}
 use Rattle.conf_system.specs.Policies.{Filter}
 use Rattle.conf_system.specs.System.{System}
 use Rattle.conf_system.specs.Texts.{IsRefusedAt, IsSystem}
-use Rattle.birdcore_top.specs.Command.{Command, Play, Check, conf_of, files_of, usual_cells}
+use Rattle.birdcore_top.specs.Command.{Command, Play, Run, Check, conf_of, files_of, usual_cells}
 
 pub data Outcome : Type 0 where
   Misused : Outcome  -- the words are no command
@@ -64,37 +65,40 @@ ConfGives known name conf (Refused line column kind) =
     known conf (Within (λ file. IsRefusedAt file line column kind))
 ConfGives known name conf _ = ⊥
 
--- A script is played: its phases and actors, over what the configuration gives to play with the
--- script's queries and what its conditions accept. Some text is this script, and the file is, where
--- it is told.
-pub record IsPlayed (known : Knowledge) (system : System) (cells : ℕ) (script : Option (List ℕ))
-    (setup : Setup) (actors : List (List ℕ)) (phases : List (List Line)) : Type 0 where
+-- A script, which may schedule or may not, is played: its phases and actors, over what the
+-- configuration gives to play with the script's queries and what its conditions accept. Some text is
+-- this script, and the file is, where it is told.
+pub record IsPlayed
+    (known : Knowledge) (system : System) (schedule : Bool) (cells : ℕ)
+    (script : Option (List ℕ)) (setup : Setup) (actors : List (List ℕ))
+    (phases : List (List Line)) : Type 0 where
   pub queries : List Query
   pub conditions : List Filter
   pub setup_is : setup ≡ setup_of system cells conditions queries
   pub text : List ℕ
   pub is_script :
-      Answers system text (script_answers.Accepted phases actors queries conditions)
-  pub told : known script (Within (λ file. Answers system file
+      Answers system schedule text (script_answers.Accepted phases actors queries conditions)
+  pub told : known script (Within (λ file. Answers system schedule file
       (script_answers.Accepted phases actors queries conditions)))
 
 -- what the script of this name gives over a configuration
 abbrev pub ScriptGives :
-    Knowledge → System → ℕ → List ℕ → Option (List ℕ) → Outcome → Type 0
-ScriptGives known system cells name script (OverLimit word) =
+    Knowledge → System → (schedule : Bool) → ℕ → List ℕ → Option (List ℕ) → Outcome → Type 0
+ScriptGives known system schedule cells name script (OverLimit word) =
     (word ≡ name) × known script IsLong
-ScriptGives known system cells name script (BadLine line kind) =
-    known script (Within (λ text. Answers system text (script_answers.Refused line kind)))
-ScriptGives known system cells name script (Played setup actors phases) =
-    IsPlayed known system cells script setup actors phases
-ScriptGives known system cells name script _ = ⊥
+ScriptGives known system schedule cells name script (BadLine line kind) =
+    known script (Within (λ text. Answers system schedule text (script_answers.Refused line kind)))
+ScriptGives known system schedule cells name script (Played setup actors phases) =
+    IsPlayed known system schedule cells script setup actors phases
+ScriptGives known system schedule cells name script _ = ⊥
 
 -- The configuration comes first, and the script only where the configuration is accepted.
-abbrev pub PlayGives : Knowledge → List ℕ → List ℕ → ℕ → Held → Outcome → Type 0
-PlayGives known conf script cells held o =
+abbrev pub PlayGives :
+    Knowledge → (schedule : Bool) → List ℕ → List ℕ → ℕ → Held → Outcome → Type 0
+PlayGives known schedule conf script cells held o =
     ConfGives known conf (held conf) o
     ⊎ ((system : System) × IsPlayable system × known (held conf) (Configures system)
-    × ScriptGives known system cells script (held script) o)
+    × ScriptGives known system schedule cells script (held script) o)
 
 -- What can be played is accepted, and what can't is refused as it is then.
 abbrev pub IsCheckOf : (Outcome → Type 0) → Outcome → Type 0
@@ -111,10 +115,13 @@ CheckGives known name conf o = ConfGives known name conf o
 -- what a command gives over files, and words that are none
 abbrev pub Gives : Knowledge → Option Command → Held → Outcome → Type 0
 Gives known None held o = o ≡ Misused
-Gives known (Some (Play conf script cells form)) held o = PlayGives known conf script cells held o
+Gives known (Some (Play conf script cells form)) held o =
+    PlayGives known true conf script cells held o
+Gives known (Some (Run conf script cells form)) held o =
+    PlayGives known false conf script cells held o
 Gives known (Some (Check conf None)) held o = CheckGives known conf (held conf) o
 Gives known (Some (Check conf (Some script))) held o =
-    IsCheckOf (PlayGives known conf script usual_cells held) o
+    IsCheckOf (PlayGives known true conf script usual_cells held) o
 
 -- This may be due, as far as the files are told,
 abbrev pub IsPossible : Option Command → Held → Outcome → Type 0

@@ -1,16 +1,17 @@
--- What is written: the report of the phases played (`ArePlayed`, `IfPlayed`), or of the first of
--- them (`IfBegun`), whose text has no last line as long as phases are left (`text_so_far`); of a
--- check that what was checked is accepted (`IfAccepted`, `accepted_text`).
+-- What is written: the report of the phases played (`ArePlayed`), which is one alone, or run
+-- (`AreRun`), which is any legal one (`AreReportsOf`, `IfPlayed`); or of the first of them
+-- (`IfBegun`), whose text has no last line as long as phases are left (`text_so_far`); of a check
+-- that what was checked is accepted (`IfAccepted`, `accepted_text`).
 -- Not modelled: what stands at a sink that tells nothing.
 -- From: own.
 -- Example: the worked run of docs/DEFINITIONS.md.
-use Rattle.std.specs.Prelude.{◌≡◌, ℕ, List, [], ◌∷◌, ◌++◌, codes, map, Option}
+use Rattle.std.specs.Prelude.{◌≡◌, ℕ, List, [], ◌∷◌, ◌++◌, codes, map, Option, Some}
 use Rattle.std.specs.Io.KnownBytes.{Appends}
 use Rattle.std.specs.List.{All, flat_map}
 use Rattle.attrs.specs.declared.judge.Verdict.{Verdict}
 use Rattle.attrs.specs.declared.route.Route.{Route}
 use Rattle.bits_ip.specs.Prefix.{Net}
-use Rattle.core_setup.specs.Plays.{IsPlay}
+use Rattle.core_setup.specs.Plays.{IsLegalPlay, IsPlay}
 use Rattle.core_setup.specs.Setup.{Setup}
 use Rattle.report.specs.Report.{report_text, text_in}
 use Rattle.report.specs.declared.phase.Form.{Form}
@@ -23,14 +24,26 @@ use Rattle.sys_run.specs.Scripts.{AsksWhatIs, FitsLine, phase_of}
 use Rattle.sys_run.specs.declared.player.Core.{Core}
 use Rattle.conf_system.specs.Seen.{filter_says, system_of}
 use Rattle.conf_system.specs.declared.system.System.{System}
-use Rattle.birdcore_top.specs.Command.{Command}
+use Rattle.birdcore_top.specs.Command.{Command, Run}
 use Rattle.birdcore_top.specs.Outcome.{Accepted, Held, IsPossible, Played}
 
--- the phases played, with these reports
+-- the phases played, with these reports: the one to which the machine comes on each
 abbrev pub ArePlayed : Setup → List (List ℕ) → List (List Line) → List PhaseReport → Type 0
 ArePlayed setup actors phases reports = IsPlay setup actors (map (phase_of setup.queries) phases) reports
 
--- A play of the files may be due, and this is said of the reports of its phases.
+-- the phases run, with these reports: any legal one of each
+abbrev pub AreRun : Setup → List (List ℕ) → List (List Line) → List PhaseReport → Type 0
+AreRun setup actors phases reports =
+    IsLegalPlay setup actors (map (phase_of setup.queries) phases) reports
+
+-- what the reports are that a command writes of these phases
+abbrev pub AreReportsOf :
+    Option Command → Setup → List (List ℕ) → List (List Line) → List PhaseReport → Type 0
+AreReportsOf (Some (Run conf script cells form)) setup actors phases reports =
+    AreRun setup actors phases reports
+AreReportsOf command setup actors phases reports = ArePlayed setup actors phases reports
+
+-- Phases of the files may be due, and this is said of their reports.
 pub record IfPlayed
     (command : Option Command) (held : Held) (P : List PhaseReport → Type 0) : Type 0 where
   pub setup : Setup
@@ -38,7 +51,7 @@ pub record IfPlayed
   pub phases : List (List Line)
   pub reports : List PhaseReport
   pub possible : IsPossible command held (Played setup actors phases)
-  pub played : ArePlayed setup actors phases reports
+  pub played : AreReportsOf command setup actors phases reports
   pub said : P reports
 
 -- The text of the reports of the first phases: the last line, `end`, stands behind them only where
@@ -47,8 +60,8 @@ abbrev pub text_so_far : Form → (more : List (List Line)) → List PhaseReport
 text_so_far form [] reports = report_text form reports
 text_so_far form (phase ∷ more) reports = flat_map (text_in form) reports
 
--- A play of the files may be due, and this is said of the phases that are left behind some first
--- ones, and of the reports of these.
+-- Phases of the files may be due, and this is said of those that are left behind some first ones,
+-- and of the reports of these.
 pub record IfBegun
     (command : Option Command) (held : Held)
     (P : (more : List (List Line)) → List PhaseReport → Type 0) : Type 0 where
@@ -58,7 +71,7 @@ pub record IfBegun
   pub more : List (List Line)
   pub reports : List PhaseReport
   pub possible : IsPossible command held (Played setup actors (first ++ more))
-  pub played : ArePlayed setup actors first reports
+  pub played : AreReportsOf command setup actors first reports
   pub said : P more reports
 
 -- the text that a check writes
@@ -88,23 +101,23 @@ AskWhatIs queries phases = All (All (AsksWhatIs queries)) phases
 abbrev pub FitTables : Setup → List (List Line) → Type 0
 FitTables setup phases = All (All (FitsLine setup)) phases
 
--- ---- the same of a given play
+-- ---- the same of given phases, by what their reports are
 
 pub record HasPlayed
-    (setup : Setup) (actors : List (List ℕ)) (phases : List (List Line))
+    (Are : List (List Line) → List PhaseReport → Type 0) (phases : List (List Line))
     (P : List PhaseReport → Type 0) : Type 0 where
   pub reports : List PhaseReport
-  pub played : ArePlayed setup actors phases reports
+  pub played : Are phases reports
   pub said : P reports
 
 pub record HasBegun
-    (setup : Setup) (actors : List (List ℕ)) (phases : List (List Line))
+    (Are : List (List Line) → List PhaseReport → Type 0) (phases : List (List Line))
     (P : (more : List (List Line)) → List PhaseReport → Type 0) : Type 0 where
   pub first : List (List Line)
   pub more : List (List Line)
   pub reports : List PhaseReport
   pub whole : phases ≡ first ++ more
-  pub played : ArePlayed setup actors first reports
+  pub played : Are first reports
   pub said : P more reports
 
 -- The core has played these phases, and the texts of their reports are written.

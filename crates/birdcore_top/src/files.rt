@@ -27,15 +27,16 @@ pub(crate) struct Files {
     pub(crate) script: ReadScript,
 }
 
-/// Reads the two files, the configuration first.
+/// Reads the two files, the configuration first. The script may schedule or may not.
 pub(crate) fn read_files<F: Shelf>(
     alloc: Global,
     conf: &str,
     script: &str,
+    schedule: bool,
     shelf: &mut F,
 ) -> Result<Files, Status>
     ensures files { IfOk result (λ files. (cells : ℕ)
-        → PlayGives IfSome conf.now script.now cells (F.held shelf.old)
+        → PlayGives IfSome schedule conf.now script.now cells (F.held shelf.old)
         (Played (setup_read files.system files.script cells) files.script.actors.items
         (phases_read files.script))) }
     ensures playable { IfOk result (λ files. IsPlayable (system_of files.system)) }
@@ -49,7 +50,7 @@ pub(crate) fn read_files<F: Shelf>(
     ensures fits { IfOk result (λ files. (cells : ℕ)
         → FitTables (setup_read files.system files.script cells) (phases_read files.script)) }
     ensures stopped { IfErr result (Stops (λ o. (cells : ℕ)
-        → PlayGives IfSome conf.now script.now cells (F.held shelf.old) o)) }
+        → PlayGives IfSome schedule conf.now script.now cells (F.held shelf.old) o)) }
     ensures read { result ≡ Err Status.ReadFault → Rose (F.faults shelf.old) (F.faults shelf.new) }
     ensures in_turn { result ≡ Err Status.ReadFault
         → AreMissedInTurn conf.now script.now (F.held shelf.old)
@@ -61,7 +62,7 @@ pub(crate) fn read_files<F: Shelf>(
     accepted_scripts_name_what_is();
     accepted_scripts_fit_their_tables();
     let system = read_conf(alloc, conf, shelf)?;
-    let script = read_lines(alloc, &system, script, shelf)?;
+    let script = read_lines(alloc, &system, script, schedule, shelf)?;
     Ok(Files { system, script })
 }
 
@@ -95,20 +96,22 @@ fn read_lines<F: Shelf>(
     alloc: Global,
     system: &System,
     name: &str,
+    schedule: bool,
     shelf: &mut F,
 ) -> Result<ReadScript, Status>
     requires { IsConfigured (system_of system.now) }
     ensures script { IfOk result (λ script. (cells : ℕ)
-        → ScriptGives IfSome (system_of system.now) cells name.now (F.held shelf.old name.now)
+        → ScriptGives IfSome (system_of system.now) schedule cells name.now (F.held shelf.old name.now)
         (Played (setup_read system.now script cells) script.actors.items
         (phases_read script))) }
-    ensures answers { IfOk result (λ script. (text : List ℕ) × Answers (system_of system.now) text
+    ensures answers { IfOk result (λ script. (text : List ℕ) × Answers (system_of system.now) schedule
+        text
         (Accepted (phases_read script) script.actors.items script.queries.items
         (map (filter_says system.now) script.filters.items))) }
     ensures before { AllCanRun system.now
         → IfOk result (λ script. All (CanRunOver system.now) script.filters.items) }
     ensures stopped { IfErr result (Stops (λ o. (cells : ℕ)
-        → ScriptGives IfSome (system_of system.now) cells name.now
+        → ScriptGives IfSome (system_of system.now) schedule cells name.now
         (F.held shelf.old name.now) o)) }
     ensures read { result ≡ Err Status.ReadFault → Rose (F.faults shelf.old) (F.faults shelf.new) }
     ensures by_name { result ≡ Err Status.ReadFault
@@ -118,7 +121,7 @@ fn read_lines<F: Shelf>(
     ensures none_fell { NoneFell (F.missed shelf.old) (F.missed shelf.new) }
 {
     let bytes = read_file(alloc, name, shelf)?;
-    let script = read_script(alloc, &bytes, system)?;
+    let script = read_script(alloc, &bytes, system, schedule)?;
     Ok(script)
 }
 

@@ -1,5 +1,5 @@
-//! What the program does: it plays a script over a configuration, and reports what came about, or
-//! checks a configuration and a script.
+//! What the program does: it plays or runs a script over a configuration, and reports what came
+//! about, or checks a configuration and a script.
 //!
 //! `top` does all of it, and owes one record of eleven promises (specs/Answered). What its words
 //! and its files come to is an `Outcome` (specs/Outcome): files that are told come to one at most,
@@ -7,9 +7,11 @@
 //! the sink, fails. Of a play the outcome is the phases of the script over what the configuration
 //! gives to play (specs/Setups of `sys_build`), and what is written are the reports of the phases to
 //! which the machine of `core_machine` comes on them (specs/Written), each as soon as it has ended.
-//! A check is refused as a play of its files is, and writes `ok` where they can be played.
+//! A run is refused as a play is, and where its script has a `!` line; what it writes are the reports
+//! of some legal phases. Which ones isn't promised: today they are those of the play. A check is
+//! refused as a play of its files is, and writes `ok` where they can be played.
 //!
-//! `words` reads the command line, `files` the files, `write` plays and writes, `status` is how the
+//! `words` reads the command line, `files` the files, `write` plays, runs and writes, `status` is how the
 //! program ends, `laws` what files say. Other laws of `top` stand in the crate `top_laws`.
 #![tactic(auto)]
 

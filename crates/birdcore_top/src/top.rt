@@ -1,25 +1,28 @@
 //! The one call that does all that the program does.
 ghost use Rattle.std.specs.Prelude.{None, Some};
 ghost use Rattle.birdcore_top.specs.Answered.{Answered, shelf_of, sink_of};
-ghost use Rattle.birdcore_top.specs.Command.{Check, Play, command_of};
+ghost use Rattle.birdcore_top.specs.Command.{Check, Play, Run, command_of};
 
 use crate::files::{Files, read_conf, read_files};
 use crate::laws::files_have_one_outcome;
 use crate::status::Status;
 use crate::words::{Asked, asked_by};
-use crate::write::{write_accepted, write_play};
+use crate::write::{write_accepted, write_play, write_run};
 use outside_io::{Gate, Shelf, Sink};
 use report::Form;
 use std::alloc::Global;
 use std::random::RandomSource;
 
-/// Does all that the program does: plays the script over the configuration that the words name, and
-/// writes the report, phase by phase, in the form that they ask for; or checks a configuration, perhaps with a script over it, and
-/// writes `ok` where they are accepted.
+/// Does all that the program does: plays or runs the script over the configuration that the words
+/// name, and writes the report, phase by phase, in the form that they ask for; or checks a
+/// configuration, perhaps with a script over it, and writes `ok` where they are accepted.
+///
+/// The reports of a play are those to which the machine comes on the lines as they are written. Those
+/// of a run are legal, and no more is promised of them; today one thread does all its lines.
 ///
 /// What it answers and what stands written are one record of eleven promises (`specs/Answered`).
-/// Want of memory may come in place of any answer; where a script is to be played, also for want of
-/// random bytes.
+/// Want of memory may come in place of any answer; where a script is to be played or run, also for
+/// want of random bytes.
 pub fn top<R: RandomSource, F: Shelf, K: Sink, G: Gate + Sync>(
     rt: &R,
     alloc: Global,
@@ -35,11 +38,11 @@ pub fn top<R: RandomSource, F: Shelf, K: Sink, G: Gate + Sync>(
         (sink_of (K.contents out.new) (K.faults out.new))
         result }
 {
-    run(rt, alloc, words, shelf, out)
+    do_asked(rt, alloc, words, shelf, out)
 }
 
 /// Does what the words ask for.
-fn run<R: RandomSource, F: Shelf, K: Sink>(
+fn do_asked<R: RandomSource, F: Shelf, K: Sink>(
     rt: &R,
     alloc: Global,
     words: &[String],
@@ -62,6 +65,14 @@ fn run<R: RandomSource, F: Shelf, K: Sink>(
                 form,
             },
         ) => { play_files(rt, alloc, conf, script, cells, form, shelf, out) }
+        Some(
+            Asked::Run {
+                conf,
+                script,
+                cells,
+                form,
+            },
+        ) => { run_files(rt, alloc, conf, script, cells, form, shelf, out) }
         Some(Asked::CheckOne { conf }) => check_conf(alloc, conf, shelf, out),
         Some(Asked::CheckBoth { conf, script }) => check_files(alloc, conf, script, shelf, out),
         None => Status::Usage,
@@ -87,8 +98,33 @@ fn play_files<R: RandomSource, F: Shelf, K: Sink>(
         result }
 {
     files_have_one_outcome();
-    match read_files(alloc, conf, script, shelf) {
+    match read_files(alloc, conf, script, true, shelf) {
         Ok(Files { system, script }) => write_play(rt, alloc, &system, cells, form, script, out),
+        Err(status) => status,
+    }
+}
+
+/// Reads the two files, runs them, and writes the report. The script may not schedule.
+fn run_files<R: RandomSource, F: Shelf, K: Sink>(
+    rt: &R,
+    alloc: Global,
+    conf: &str,
+    script: &str,
+    cells: u32,
+    form: Form,
+    shelf: &mut F,
+    out: &mut K,
+) -> Status
+    ensures { Answered (Some (Run conf.now script.now cells form))
+        (shelf_of (F.held shelf.old) (F.lacks shelf.old) (F.missed shelf.old) (F.faults shelf.old))
+        (shelf_of (F.held shelf.new) (F.lacks shelf.new) (F.missed shelf.new) (F.faults shelf.new))
+        (sink_of (K.contents out.old) (K.faults out.old))
+        (sink_of (K.contents out.new) (K.faults out.new))
+        result }
+{
+    files_have_one_outcome();
+    match read_files(alloc, conf, script, false, shelf) {
+        Ok(Files { system, script }) => write_run(rt, alloc, &system, cells, form, script, out),
         Err(status) => status,
     }
 }
@@ -109,7 +145,7 @@ fn check_files<F: Shelf, K: Sink>(
         result }
 {
     files_have_one_outcome();
-    match read_files(alloc, conf, script, shelf) {
+    match read_files(alloc, conf, script, true, shelf) {
         Ok(_files) => write_accepted(out),
         Err(status) => status,
     }

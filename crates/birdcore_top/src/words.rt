@@ -1,6 +1,6 @@
 //! The command line.
 ghost use Rattle.std.specs.Prelude.{◌≡◌, None, Some, MatchOption};
-ghost use Rattle.birdcore_top.specs.Command.{asked_of_five, asked_of_four, asked_of_one, asked_of_three, asked_of_two, cells_in, command_asked, command_of, is_file};
+ghost use Rattle.birdcore_top.specs.Command.{asked_of_five, asked_of_four, asked_of_one, asked_of_three, asked_of_two, cells_in, command_asked, command_of, is_file, played_by};
 
 use report::Form;
 
@@ -21,6 +21,13 @@ pub(crate) enum Asked<'a> {
         cells: u32,
         form: Form,
     },
+    /// The same, but for what a script may say, and what is written.
+    Run {
+        conf: &'a str,
+        script: &'a str,
+        cells: u32,
+        form: Form,
+    },
     /// A configuration is to be checked.
     CheckOne {
         conf: &'a str,
@@ -32,8 +39,8 @@ pub(crate) enum Asked<'a> {
     },
 }
 
-/// What the words ask for: `check CONF`, `check CONF SCRIPT`, or `play CONF SCRIPT`, perhaps with
-/// `--journal N` behind it, and perhaps with `-q` as the last word.
+/// What the words ask for: `check CONF`, `check CONF SCRIPT`, `play CONF SCRIPT` or `run CONF SCRIPT`,
+/// of these two perhaps with `--journal N` behind it, and perhaps with `-q` as the last word.
 pub(crate) fn asked_by(words: &[String]) -> Option<Asked<'_>>
     ensures { MatchOption result (command_of words.now ≡ None)
         (λ asked. command_of words.now ≡ Some (command_asked asked)) }
@@ -85,17 +92,10 @@ fn of_two<'a>(command: &str, conf: &'a str, script: &'a str) -> Option<Asked<'a>
 {
     if !(is_file(conf) && is_file(script)) {
         None
-    } else if command == "play" {
-        Some(Asked::Play {
-            conf,
-            script,
-            cells: USUAL_CELLS,
-            form: Form::Whole,
-        })
     } else if command == "check" {
         Some(Asked::CheckBoth { conf, script })
     } else {
-        None
+        played_by(command, conf, script, USUAL_CELLS, Form::Whole)
     }
 }
 
@@ -105,13 +105,8 @@ fn of_three<'a>(command: &str, conf: &'a str, script: &'a str, last: &str) -> Op
         (λ asked. asked_of_three command.now conf.now script.now last.now
         ≡ Some (command_asked asked)) }
 {
-    if command == "play" && last == "-q" && is_file(conf) && is_file(script) {
-        Some(Asked::Play {
-            conf,
-            script,
-            cells: USUAL_CELLS,
-            form: Form::Quiet,
-        })
+    if last == "-q" && is_file(conf) && is_file(script) {
+        played_by(command, conf, script, USUAL_CELLS, Form::Quiet)
     } else {
         None
     }
@@ -130,13 +125,8 @@ fn of_four<'a>(
         (λ asked. asked_of_four command.now conf.now script.now option.now number.now
         ≡ Some (command_asked asked)) }
 {
-    if command == "play" && option == "--journal" && is_file(conf) && is_file(script) {
-        Some(Asked::Play {
-            conf,
-            script,
-            cells: cells_of(number)?,
-            form: Form::Whole,
-        })
+    if option == "--journal" && is_file(conf) && is_file(script) {
+        played_by(command, conf, script, cells_of(number)?, Form::Whole)
     } else {
         None
     }
@@ -156,13 +146,39 @@ fn of_five<'a>(
         (λ asked. asked_of_five command.now conf.now script.now option.now number.now last.now
         ≡ Some (command_asked asked)) }
 {
-    let is_quiet = command == "play" && option == "--journal" && last == "-q";
+    let is_quiet = option == "--journal" && last == "-q";
     if is_quiet && is_file(conf) && is_file(script) {
+        played_by(command, conf, script, cells_of(number)?, Form::Quiet)
+    } else {
+        None
+    }
+}
+
+/// What is asked for by the name of a command that writes reports.
+fn played_by<'a>(
+    command: &str,
+    conf: &'a str,
+    script: &'a str,
+    cells: u32,
+    form: Form,
+) -> Option<Asked<'a>>
+    ensures { MatchOption result (played_by command.now conf.now script.now cells form ≡ None)
+        (λ asked. played_by command.now conf.now script.now cells form
+        ≡ Some (command_asked asked)) }
+{
+    if command == "play" {
         Some(Asked::Play {
             conf,
             script,
-            cells: cells_of(number)?,
-            form: Form::Quiet,
+            cells,
+            form,
+        })
+    } else if command == "run" {
+        Some(Asked::Run {
+            conf,
+            script,
+            cells,
+            form,
         })
     } else {
         None

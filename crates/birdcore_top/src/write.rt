@@ -1,5 +1,5 @@
-//! Plays a script over a configuration, and writes the report of each phase when it has ended; and
-//! what is written of a check.
+//! Plays or runs a script over a configuration, and writes the report of each phase when it has
+//! ended; and what is written of a check.
 ghost use Rattle.std.specs.Prelude.{◌≡◌, ◌⊎◌, ◌≤◌, [], All, Err, length, map, IfErr, OnOk};
 ghost use Rattle.std.specs.Io.KnownBytes.{Appends, Keeps};
 ghost use Rattle.std.specs.List.{flat_map};
@@ -12,12 +12,13 @@ ghost use Rattle.sys_run.specs.Playing as played;
 ghost use Rattle.conf_system.specs.Coded.{AllCanRun, HasCode, CanRunOver};
 ghost use Rattle.conf_system.specs.Seen.{system_of};
 ghost use Rattle.birdcore_top.specs.Answer.{CutsOff, IsEnd};
-ghost use Rattle.birdcore_top.specs.Written.{AskWhatIs, FitTables, HasBegun, HasPlayed, HasWritten, accepted_text, phases_read, setup_read, text_so_far};
+ghost use Rattle.birdcore_top.specs.Written.{ArePlayed, AreRun, AskWhatIs, FitTables, HasBegun, HasPlayed, HasWritten, accepted_text, phases_read, setup_read, text_so_far};
 
 use crate::status::Status;
 use attrs::Judge;
 use bits_ip::OutOfMemory;
 use conf_system::{Code, System};
+use core_setup::laws::plays_are_legal;
 use outside_io::{Block, Failed, Sink, Stream, write_whole};
 use report::{Form, PhaseReport, text_in};
 use script_lines::{Line, Name};
@@ -48,14 +49,17 @@ pub(crate) fn write_play<R: RandomSource, K: Sink>(
     requires fits { FitTables (setup_read system.now script cells) (phases_read script) }
     ensures end { IsEnd result }
     ensures report { result ≡ Status.Ok
-        → HasPlayed (setup_read system.now script cells) script.actors.items (phases_read script)
+        → HasPlayed (ArePlayed (setup_read system.now script cells) script.actors.items)
+        (phases_read script)
         (λ reports. Appends (K.contents out.old) (K.contents out.new) (report_text form reports)) }
     ensures front { result ≡ Status.WriteFault
-        → HasBegun (setup_read system.now script cells) script.actors.items (phases_read script)
+        → HasBegun (ArePlayed (setup_read system.now script cells) script.actors.items)
+        (phases_read script)
         (λ more reports.
         WritesFront (K.contents out.old) (K.contents out.new) (text_so_far form more reports)) }
     ensures begun { result ≡ Status.OutOfMemory
-        → HasBegun (setup_read system.now script cells) script.actors.items (phases_read script)
+        → HasBegun (ArePlayed (setup_read system.now script cells) script.actors.items)
+        (phases_read script)
         (λ more reports.
         Appends (K.contents out.old) (K.contents out.new) (flat_map (text_in form) reports)) }
     ensures write { result ≡ Status.WriteFault → Rose (K.faults out.old) (K.faults out.new) }
@@ -67,6 +71,47 @@ pub(crate) fn write_play<R: RandomSource, K: Sink>(
         Ok(code) => play_coded(alloc, hasher, system, &code, cells, form, script, out),
         Err(OutOfMemory) => Status::OutOfMemory,
     }
+}
+
+/// Runs the script over the configuration, and writes the reports in this form.
+///
+/// They are those of some legal phases, one for each phase of the script: which ones isn't promised.
+/// Today one thread does all lines in the order in which they are written, as a play does. Want of
+/// memory is told as there.
+pub(crate) fn write_run<R: RandomSource, K: Sink>(
+    rt: &R,
+    alloc: Global,
+    system: &System,
+    cells: u32,
+    form: Form,
+    script: ReadScript,
+    out: &mut K,
+) -> Status
+    requires playable { IsPlayable (system_of system.now) }
+    requires ordered { AllCanRun system.now }
+    requires before { All (CanRunOver system.now) script.filters.items }
+    requires setup { IsSetup (setup_read system.now script cells) }
+    requires asked { AskWhatIs (length script.queries.items) (phases_read script) }
+    requires fits { FitTables (setup_read system.now script cells) (phases_read script) }
+    ensures end { IsEnd result }
+    ensures report { result ≡ Status.Ok
+        → HasPlayed (AreRun (setup_read system.now script cells) script.actors.items)
+        (phases_read script)
+        (λ reports. Appends (K.contents out.old) (K.contents out.new) (report_text form reports)) }
+    ensures front { result ≡ Status.WriteFault
+        → HasBegun (AreRun (setup_read system.now script cells) script.actors.items)
+        (phases_read script)
+        (λ more reports.
+        WritesFront (K.contents out.old) (K.contents out.new) (text_so_far form more reports)) }
+    ensures begun { result ≡ Status.OutOfMemory
+        → HasBegun (AreRun (setup_read system.now script cells) script.actors.items)
+        (phases_read script)
+        (λ more reports.
+        Appends (K.contents out.old) (K.contents out.new) (flat_map (text_in form) reports)) }
+    ensures write { result ≡ Status.WriteFault → Rose (K.faults out.old) (K.faults out.new) }
+{
+    plays_are_legal();
+    write_play(rt, alloc, system, cells, form, script, out)
 }
 
 /// Plays the script over the configuration and its code, and writes the reports.
@@ -88,14 +133,17 @@ fn play_coded<K: Sink>(
     requires fits { FitTables (setup_read system.now script cells) (phases_read script) }
     ensures end { IsEnd result }
     ensures report { result ≡ Status.Ok
-        → HasPlayed (setup_read system.now script cells) script.actors.items (phases_read script)
+        → HasPlayed (ArePlayed (setup_read system.now script cells) script.actors.items)
+        (phases_read script)
         (λ reports. Appends (K.contents out.old) (K.contents out.new) (report_text form reports)) }
     ensures front { result ≡ Status.WriteFault
-        → HasBegun (setup_read system.now script cells) script.actors.items (phases_read script)
+        → HasBegun (ArePlayed (setup_read system.now script cells) script.actors.items)
+        (phases_read script)
         (λ more reports.
         WritesFront (K.contents out.old) (K.contents out.new) (text_so_far form more reports)) }
     ensures begun { result ≡ Status.OutOfMemory
-        → HasBegun (setup_read system.now script cells) script.actors.items (phases_read script)
+        → HasBegun (ArePlayed (setup_read system.now script cells) script.actors.items)
+        (phases_read script)
         (λ more reports.
         Appends (K.contents out.old) (K.contents out.new) (flat_map (text_in form) reports)) }
     ensures write { result ≡ Status.WriteFault → Rose (K.faults out.old) (K.faults out.new) }
@@ -143,12 +191,12 @@ fn write_phases<J: Judge, K: Sink>(
     ensures cut { IfErr result CutsOff }
     ensures front { result ≡ Err Status.WriteFault → (setup : Setup)
         → played.HasPlayed J.verdict setup actors.now [] [] core.old
-        → HasBegun setup actors.now (map (λ phase. phase.items) phases.items)
+        → HasBegun (ArePlayed setup actors.now) (map (λ phase. phase.items) phases.items)
         (λ more reports.
         WritesFront (K.contents out.old) (K.contents out.new) (text_so_far form more reports)) }
     ensures begun { result ≡ Err Status.OutOfMemory → (setup : Setup)
         → played.HasPlayed J.verdict setup actors.now [] [] core.old
-        → HasBegun setup actors.now (map (λ phase. phase.items) phases.items)
+        → HasBegun (ArePlayed setup actors.now) (map (λ phase. phase.items) phases.items)
         (λ more reports.
         Appends (K.contents out.old) (K.contents out.new) (flat_map (text_in form) reports)) }
     ensures write { result ≡ Err Status.WriteFault → Rose (K.faults out.old) (K.faults out.new) }

@@ -1,5 +1,5 @@
-//! Tries plays, checks and queries that files of cases hold: what the program answers to each, and
-//! which report or reply it writes.
+//! Tries plays, runs, checks and queries that files of cases hold: what the program answers to each,
+//! and which report or reply it writes.
 #![tactic(auto)]
 
 mod checks;
@@ -17,6 +17,8 @@ enum Sort {
     Texts,
     /// The name of a configuration's file and a script, and the status.
     Scripts,
+    /// The same, and the status of a run.
+    Barred,
     /// One text or two, and what `check` answers.
     Checks,
     /// The program's words, and the status, `ok` or the report's name.
@@ -25,6 +27,8 @@ enum Sort {
     Reports,
     /// The names of two files, and the report's name.
     Plays,
+    /// The same of a run.
+    Runs,
     /// The names of two files and a query, and the reply.
     Replies,
 }
@@ -35,10 +39,12 @@ fn answer(rt: &HostRuntime, sort: Sort, case: &Case) -> io::Result<String> {
     match sort {
         Sort::Texts => plays::answer(rt, input),
         Sort::Scripts => plays::refusal(rt, input),
+        Sort::Barred => plays::barred(rt, input),
         Sort::Checks => checks::answer(rt, input),
         Sort::Words => plays::words(rt, name, input),
         Sort::Reports => plays::report(rt, name, input),
-        Sort::Plays => plays::play(rt, name, input),
+        Sort::Plays => plays::play(rt, "play", name, input),
+        Sort::Runs => plays::play(rt, "run", name, input),
         Sort::Replies => replies::reply(rt, input),
     }
 }
@@ -56,11 +62,13 @@ fn main(rt: HostRuntime) -> io::Result<ExitCode> {
     let tables = [
         (Sort::Texts, "answers.txt"),
         (Sort::Scripts, "refused.txt"),
+        (Sort::Barred, "barred.txt"),
         (Sort::Checks, "checks.txt"),
         (Sort::Words, "words.txt"),
         (Sort::Reports, "reports.txt"),
         (Sort::Plays, "plays.txt"),
         (Sort::Plays, "examples.txt"),
+        (Sort::Runs, "runs.txt"),
         (Sort::Replies, "replies.txt"),
     ];
     let mut good = true;

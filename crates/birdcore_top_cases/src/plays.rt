@@ -1,8 +1,8 @@
-//! What a play answers and writes.
+//! What a play or a run answers and writes.
 //!
 //! An input is `CONF @@ SCRIPT`, the two files' texts; `none` stands for a file that isn't there.
 //! Where the files lie beside the table it is `CONF SCRIPT`, their names, and what stands behind
-//! them is given to `play` behind its three words. What is refused is checked too, with the same
+//! them is given to the command behind its three words. What is refused is checked too, with the same
 //! answer, and what is played is accepted by a check.
 use crate::checks::{also_checked, checked_so};
 use birdcore_top::Status;
@@ -136,6 +136,12 @@ pub fn refusal(rt: &HostRuntime, input: &[u8]) -> io::Result<String> {
     checked_so(rt, played, script_over(rt, input)?)
 }
 
+/// The status of the run of a script, which stands behind the name of a configuration's file.
+pub fn barred(rt: &HostRuntime, input: &[u8]) -> io::Result<String> {
+    let (status, text) = done(rt, script_over(rt, input)?, "run conf script")?;
+    status_of(rt, status, text.as_slice())
+}
+
 /// What the program answers to these words over two files that are played by `play conf script`,
 /// or what it writes: `ok`, or the name of the expected report.
 pub fn words(rt: &HostRuntime, name: &str, input: &[u8]) -> io::Result<String> {
@@ -152,17 +158,16 @@ pub fn report(rt: &HostRuntime, name: &str, input: &[u8]) -> io::Result<String> 
     also_checked(rt, played, files_of(rt.alloc(), input)?)
 }
 
-/// Which report the play of files of these names writes.
-pub fn play(rt: &HostRuntime, name: &str, input: &[u8]) -> io::Result<String> {
+/// Which report the command of this word, `play` or `run`, writes of files of these names.
+pub fn play(rt: &HostRuntime, word: &str, name: &str, input: &[u8]) -> io::Result<String> {
     let (conf, rest) = text_of(input)?.split_once(' ').ok_or(bad_line())?;
     let (script, more) = rest.split_once(' ').unwrap_or((rest, ""));
     let files = files_at(rt, conf, script)?;
-    let (status, text) = if more.is_empty() {
-        done(rt, files, "play conf script")?
-    } else {
-        let words = format!(in rt.alloc(); "play conf script {more}")?;
-        done(rt, files, words.as_str())?
-    };
+    let mut words = format!(in rt.alloc(); "{word} conf script")?;
+    if !more.is_empty() {
+        words = format!(in rt.alloc(); "{word} conf script {more}")?;
+    }
+    let (status, text) = done(rt, files, words.as_str())?;
     let played = compared(rt, name, status, text.as_slice())?;
     also_checked(rt, played, files_at(rt, conf, script)?)
 }

@@ -229,6 +229,7 @@ module _ (bytes : List ℕ) where
   show_unfit named actor rest more asked why.Syntax cut is unfit = absurd unfit
   show_unfit named actor rest more asked why.UnknownActor cut is unfit = absurd unfit
   show_unfit named actor rest more asked why.AttrLimit cut is unfit = absurd unfit
+  show_unfit named actor rest more asked why.ScheduleInRun cut is unfit = absurd unfit
   show_unfit named actor rest more asked why.Actors cut is unfit = absurd unfit
   show_unfit named actor rest more asked why.Expression cut is unfit = absurd unfit
 

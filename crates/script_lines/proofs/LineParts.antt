@@ -17,7 +17,7 @@ use Rattle.show_route.specs.declared.query.Query.{Query}
 use Rattle.script_lines.specs.declared.script.Line.TheVariants as lines
 use Rattle.queries.specs.Question.{Asked, IsQuestion}
 use Rattle.script_lines.specs.Grammar.{Command, Close, ShowRoute, IsCommand, IsStep, IsSpoken, IsActor, Form, Sync, Take, Push, Says, AreForm}
-use Rattle.script_lines.specs.Kinds.{place_of, channel_of, has_wrong_actor, has_unknown_name, has_other_family, is_over_limit, is_actor_too_many, least_kind}
+use Rattle.script_lines.specs.Kinds.{place_of, channel_of, has_wrong_actor, has_unknown_name, has_other_family, is_over_limit, is_barred_step, is_actor_too_many, least_kind}
 use Rattle.announcements.specs.Limits.{fits}
 use Rattle.script_lines.specs.Script.{with_actor, condition_at, IsRefusedAs}
 use Rattle.script_lines.specs.Inside.{IfRefused, AreStep, IsNoStep, IsStepOf, mark_text, first_kind, IsActed, IsNoAct, State, and_line, with_actors, acted, choice_after, chosen, IsRead, ReadsLine, Refuses, Does}
@@ -77,34 +77,40 @@ module _ (bytes : List ℕ) where
   no_push rest none (Push channel count) is = none channel count (step_behind (codes "!push") rest channel count is)
   no_push rest none (Says actor command) is = push_not_spoken actor (heads_same _ _ _ _ is.whole)
 
-  -- the kinds of a step, by whether the channel is known and the number fits
-  step_kinds : Bool → Bool → Option ScriptKind
-  step_kinds unknown fit = cond unknown (Some why.UnknownName) (cond (not fit) (Some why.AttrLimit) None)
+  -- the kinds of a step, by whether the channel is known, the number fits, and scripts may schedule
+  step_kinds : Bool → Bool → Bool → Option ScriptKind
+  step_kinds unknown fit schedule = cond unknown (Some why.UnknownName) (cond (not fit) (Some why.AttrLimit) (cond (not schedule) (Some why.ScheduleInRun) None))
 
-  take_kind : (named : Named) (actors : List (List ℕ)) (name : List ℕ) (count : ℕ) (unknown fit : Bool) → is_none (channel_of named name) ≡ unknown → fits count ≡ fit
-      → least_kind named actors (Take name count) ≡ step_kinds unknown fit
-  unfolding step_kinds
-  take_kind named actors name count unknown fit one other =
-      ap (λ (b : Bool). step_kinds b (fits count)) one ∙ ap (λ (b : Bool). step_kinds unknown b) other
+  step_kinds_are : (unknown fit schedule a b c : Bool) → a ≡ unknown → b ≡ fit → c ≡ schedule → step_kinds a b c ≡ step_kinds unknown fit schedule
+  step_kinds_are unknown fit schedule a b c one other third =
+      ap (λ (x : Bool). step_kinds x b c) one ∙ ap (λ (x : Bool). step_kinds unknown x c) other ∙ ap (λ (x : Bool). step_kinds unknown fit x) third
 
-  push_kind : (named : Named) (actors : List (List ℕ)) (name : List ℕ) (count : ℕ) (unknown fit : Bool) → is_none (channel_of named name) ≡ unknown → fits count ≡ fit
-      → least_kind named actors (Push name count) ≡ step_kinds unknown fit
+  take_kind : (named : Named) (actors : List (List ℕ)) (name : List ℕ) (count : ℕ) (unknown fit schedule : Bool) → is_none (channel_of named name) ≡ unknown → fits count ≡ fit → named.schedule ≡ schedule
+      → least_kind named actors (Take name count) ≡ step_kinds unknown fit schedule
   unfolding step_kinds
-  push_kind named actors name count unknown fit one other =
-      ap (λ (b : Bool). step_kinds b (fits count)) one ∙ ap (λ (b : Bool). step_kinds unknown b) other
+  take_kind named actors name count unknown fit schedule one other third = step_kinds_are unknown fit schedule (is_none (channel_of named name)) (fits count) named.schedule one other third
+
+  push_kind : (named : Named) (actors : List (List ℕ)) (name : List ℕ) (count : ℕ) (unknown fit schedule : Bool) → is_none (channel_of named name) ≡ unknown → fits count ≡ fit → named.schedule ≡ schedule
+      → least_kind named actors (Push name count) ≡ step_kinds unknown fit schedule
+  unfolding step_kinds
+  push_kind named actors name count unknown fit schedule one other third = step_kinds_are unknown fit schedule (is_none (channel_of named name)) (fits count) named.schedule one other third
 
   known : (o : Option ℕ) (n : ℕ) → o ≡ Some n → (is_none o ≡ false) × (n ≡ unwrap_or o 0)
   known o n is = (ap is_none is, ap (λ (p : Option ℕ). unwrap_or p 0) (sym is))
 
-  unknown_fits : (b : Bool) → step_kinds true b ≡ Some why.UnknownName
+  unknown_fits : (b c : Bool) → step_kinds true b c ≡ Some why.UnknownName
   unfolding step_kinds
-  unknown_fits b = refl
+  unknown_fits b c = refl
 
-  over_limit : step_kinds false false ≡ Some why.AttrLimit
+  over_limit : (c : Bool) → step_kinds false false c ≡ Some why.AttrLimit
   unfolding step_kinds
-  over_limit = refl
+  over_limit c = refl
 
-  all_fine : step_kinds false true ≡ None
+  barred : step_kinds false true false ≡ Some why.ScheduleInRun
+  unfolding step_kinds
+  barred = refl
+
+  all_fine : step_kinds false true true ≡ None
   unfolding step_kinds
   all_fine = refl
 
@@ -149,7 +155,7 @@ module _ (bytes : List ℕ) where
       record {
         form = Take is.name count;
         form_is = step_made (codes "!take") rest is.name count is.is;
-        fine = take_kind named old.actors is.name count false true place.0 is.fine ∙ all_fine;
+        fine = take_kind named old.actors is.name count false true true place.0 is.fine is.allowed ∙ all_fine;
         new_is = put ∙ ap (λ (n : ℕ). and_line (lines.Take n count) old) place.1;
       }
 
@@ -160,7 +166,7 @@ module _ (bytes : List ℕ) where
       record {
         form = Push is.name count;
         form_is = step_made (codes "!push") rest is.name count is.is;
-        fine = push_kind named old.actors is.name count false true place.0 is.fine ∙ all_fine;
+        fine = push_kind named old.actors is.name count false true true place.0 is.fine is.allowed ∙ all_fine;
         new_is = put ∙ ap (λ (n : ℕ). and_line (lines.Push n count) old) place.1;
       }
 
@@ -169,10 +175,12 @@ module _ (bytes : List ℕ) where
   take_refused named actors rest (line_faults.Refused why.Syntax) is = no_take rest is
   take_refused named actors rest (line_faults.Refused why.UnknownActor) is = absurd is
   take_refused named actors rest (line_faults.Refused why.UnknownName) is =
-      (Take is.0 is.1, step_made (codes "!take") rest is.0 is.1 is.2, take_kind named actors is.0 is.1 true (fits is.1) is.3 refl ∙ unknown_fits (fits is.1))
+      (Take is.0 is.1, step_made (codes "!take") rest is.0 is.1 is.2, take_kind named actors is.0 is.1 true (fits is.1) named.schedule is.3 refl refl ∙ unknown_fits (fits is.1) named.schedule)
   take_refused named actors rest (line_faults.Refused why.Nettype) is = absurd is
   take_refused named actors rest (line_faults.Refused why.AttrLimit) is =
-      (Take is.0 is.1, step_made (codes "!take") rest is.0 is.1 is.2, take_kind named actors is.0 is.1 false false is.3 is.4 ∙ over_limit)
+      (Take is.0 is.1, step_made (codes "!take") rest is.0 is.1 is.2, take_kind named actors is.0 is.1 false false named.schedule is.3 is.4 refl ∙ over_limit named.schedule)
+  take_refused named actors rest (line_faults.Refused why.ScheduleInRun) is =
+      (Take is.0 is.1, step_made (codes "!take") rest is.0 is.1 is.2, take_kind named actors is.0 is.1 false true false is.3 is.4 is.5 ∙ barred)
   take_refused named actors rest (line_faults.Refused why.Actors) is = absurd is
   take_refused named actors rest (line_faults.Refused why.Expression) is = absurd is
 
@@ -181,10 +189,12 @@ module _ (bytes : List ℕ) where
   push_refused named actors rest (line_faults.Refused why.Syntax) is = no_push rest is
   push_refused named actors rest (line_faults.Refused why.UnknownActor) is = absurd is
   push_refused named actors rest (line_faults.Refused why.UnknownName) is =
-      (Push is.0 is.1, step_made (codes "!push") rest is.0 is.1 is.2, push_kind named actors is.0 is.1 true (fits is.1) is.3 refl ∙ unknown_fits (fits is.1))
+      (Push is.0 is.1, step_made (codes "!push") rest is.0 is.1 is.2, push_kind named actors is.0 is.1 true (fits is.1) named.schedule is.3 refl refl ∙ unknown_fits (fits is.1) named.schedule)
   push_refused named actors rest (line_faults.Refused why.Nettype) is = absurd is
   push_refused named actors rest (line_faults.Refused why.AttrLimit) is =
-      (Push is.0 is.1, step_made (codes "!push") rest is.0 is.1 is.2, push_kind named actors is.0 is.1 false false is.3 is.4 ∙ over_limit)
+      (Push is.0 is.1, step_made (codes "!push") rest is.0 is.1 is.2, push_kind named actors is.0 is.1 false false named.schedule is.3 is.4 refl ∙ over_limit named.schedule)
+  push_refused named actors rest (line_faults.Refused why.ScheduleInRun) is =
+      (Push is.0 is.1, step_made (codes "!push") rest is.0 is.1 is.2, push_kind named actors is.0 is.1 false true false is.3 is.4 is.5 ∙ barred)
   push_refused named actors rest (line_faults.Refused why.Actors) is = absurd is
   push_refused named actors rest (line_faults.Refused why.Expression) is = absurd is
 
@@ -215,22 +225,23 @@ module _ (bytes : List ℕ) where
   no_spoken actor rest none (Says other command) is = none command (spoken_behind actor rest other command is).2
 
   -- the least kind is the least of those that don't rest on who has spoken, or else the last
-  chain : Bool → Bool → Bool → Bool → Option ScriptKind → Option ScriptKind
-  chain a b c d last = cond a (Some why.UnknownActor) (cond b (Some why.UnknownName) (cond c (Some why.Nettype) (cond d (Some why.AttrLimit) last)))
+  chain : Bool → Bool → Bool → Bool → Bool → Option ScriptKind → Option ScriptKind
+  chain a b c d e last = cond a (Some why.UnknownActor) (cond b (Some why.UnknownName) (cond c (Some why.Nettype) (cond d (Some why.AttrLimit) (cond e (Some why.ScheduleInRun) last))))
 
-  chain_last : (a b c d : Bool) (last : Option ScriptKind) → chain a b c d last ≡ option_or (chain a b c d None) last
+  chain_last : (a b c d e : Bool) (last : Option ScriptKind) → chain a b c d e last ≡ option_or (chain a b c d e None) last
   unfolding chain
-  chain_last true b c d last = refl
-  chain_last false true c d last = refl
-  chain_last false false true d last = refl
-  chain_last false false false true last = refl
-  chain_last false false false false last = refl
+  chain_last true b c d e last = refl
+  chain_last false true c d e last = refl
+  chain_last false false true d e last = refl
+  chain_last false false false true e last = refl
+  chain_last false false false false true last = refl
+  chain_last false false false false false last = refl
 
   pub least_from_first : (named : Named) (actors : List (List ℕ)) (form : Form)
       → least_kind named actors form ≡ option_or (first_kind named form) (cond (is_actor_too_many actors form) (Some why.Actors) None)
   unfolding chain
   least_from_first named actors form =
-      chain_last (has_wrong_actor named form) (has_unknown_name named form) (has_other_family named form) (is_over_limit form) (cond (is_actor_too_many actors form) (Some why.Actors) None)
+      chain_last (has_wrong_actor named form) (has_unknown_name named form) (has_other_family named form) (is_over_limit form) (is_barred_step named form) (cond (is_actor_too_many actors form) (Some why.Actors) None)
 
   least_some : (named : Named) (actors : List (List ℕ)) (form : Form) (kind : ScriptKind) → first_kind named form ≡ Some kind → least_kind named actors form ≡ Some kind
   least_some named actors form kind is =
@@ -264,6 +275,7 @@ module _ (bytes : List ℕ) where
   command_refused named actors actor rest (line_faults.Refused why.UnknownName) speaks is = act_refused named actors actor rest why.UnknownName speaks is
   command_refused named actors actor rest (line_faults.Refused why.Nettype) speaks is = act_refused named actors actor rest why.Nettype speaks is
   command_refused named actors actor rest (line_faults.Refused why.AttrLimit) speaks is = act_refused named actors actor rest why.AttrLimit speaks is
+  command_refused named actors actor rest (line_faults.Refused why.ScheduleInRun) speaks is = act_refused named actors actor rest why.ScheduleInRun speaks is
   command_refused named actors actor rest (line_faults.Refused why.Actors) speaks is = act_refused named actors actor rest why.Actors speaks is
   command_refused named actors actor rest (line_faults.Refused why.Expression) speaks is = act_refused named actors actor rest why.Expression speaks is
 

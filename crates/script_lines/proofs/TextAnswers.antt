@@ -9,7 +9,7 @@ use Rattle.script_lines.specs.declared.script.Line.{Line}
 use Rattle.script_lines.specs.declared.faults.ScriptKind.{ScriptKind}
 use Rattle.script_lines.specs.declared.faults.ScriptKind.TheVariants as why
 use Rattle.script_lines.specs.Grammar.{Form, HasForm}
-use Rattle.script_lines.specs.Kinds.{has_wrong_actor, has_unknown_name, has_other_family, is_over_limit, is_actor_too_many, least_kind}
+use Rattle.script_lines.specs.Kinds.{has_wrong_actor, has_unknown_name, has_other_family, is_over_limit, is_barred_step, is_actor_too_many, least_kind}
 use Rattle.script_lines.specs.Script.{AreForms, IsRefusedAs, IsRefused, IsScript, Answer, Accepted, Refused, Answers, numbered, is_passed, without_comments, with_actor, actors_of, phases_of, queries_of, conditions_of}
 use Rattle.script_lines.proofs.Agreement.{OneQuestion, forms_agree}
 use Rattle.script_lines.proofs.ScriptLines.{line_passed, line_counted, lines_joined}
@@ -75,6 +75,7 @@ module _ (one_question : OneQuestion) where
   either_way named actors bytes why.UnknownName is = inr is
   either_way named actors bytes why.Nettype is = inr is
   either_way named actors bytes why.AttrLimit is = inr is
+  either_way named actors bytes why.ScheduleInRun is = inr is
   either_way named actors bytes why.Actors is = inr is
   either_way named actors bytes why.Expression is = inr is
 
@@ -246,31 +247,34 @@ bad_further named actors number bytes more form counts is fine bad = record {
 }
 
 -- no form is refused as none
-chain : Bool → Bool → Bool → Bool → Bool → Option ScriptKind
-chain a b c d e = cond a (Some why.UnknownActor) (cond b (Some why.UnknownName) (cond c (Some why.Nettype) (cond d (Some why.AttrLimit) (cond e (Some why.Actors) None))))
+chain : Bool → Bool → Bool → Bool → Bool → Bool → Option ScriptKind
+chain a b c d e f =
+    cond a (Some why.UnknownActor) (cond b (Some why.UnknownName) (cond c (Some why.Nettype) (cond d (Some why.AttrLimit) (cond e (Some why.ScheduleInRun) (cond f (Some why.Actors) None)))))
 
-chain_not : (a b c d e : Bool) → chain a b c d e ≡ Some why.Syntax → ⊥
+chain_not : (a b c d e f : Bool) → chain a b c d e f ≡ Some why.Syntax → ⊥
 unfolding chain
-chain_not true b c d e is = cc
-chain_not false true c d e is = cc
-chain_not false false true d e is = cc
-chain_not false false false true e is = cc
-chain_not false false false false true is = cc
-chain_not false false false false false is = cc
+chain_not true b c d e f is = cc
+chain_not false true c d e f is = cc
+chain_not false false true d e f is = cc
+chain_not false false false true e f is = cc
+chain_not false false false false true f is = cc
+chain_not false false false false false true is = cc
+chain_not false false false false false false is = cc
 
-chain_no_expression : (a b c d e : Bool) → chain a b c d e ≡ Some why.Expression → ⊥
+chain_no_expression : (a b c d e f : Bool) → chain a b c d e f ≡ Some why.Expression → ⊥
 unfolding chain
-chain_no_expression true b c d e is = cc
-chain_no_expression false true c d e is = cc
-chain_no_expression false false true d e is = cc
-chain_no_expression false false false true e is = cc
-chain_no_expression false false false false true is = cc
-chain_no_expression false false false false false is = cc
+chain_no_expression true b c d e f is = cc
+chain_no_expression false true c d e f is = cc
+chain_no_expression false false true d e f is = cc
+chain_no_expression false false false true e f is = cc
+chain_no_expression false false false false true f is = cc
+chain_no_expression false false false false false true is = cc
+chain_no_expression false false false false false false is = cc
 
 never_syntax : (named : Named) (actors : List (List ℕ)) (form : Form) → least_kind named actors form ≡ Some why.Syntax → ⊥
 unfolding chain
 never_syntax named actors form is =
-    chain_not (has_wrong_actor named form) (has_unknown_name named form) (has_other_family named form) (is_over_limit form) (is_actor_too_many actors form) is
+    chain_not (has_wrong_actor named form) (has_unknown_name named form) (has_other_family named form) (is_over_limit form) (is_barred_step named form) (is_actor_too_many actors form) is
 
 refused_form : (named : Named) (actors : List (List ℕ)) (bytes : List ℕ) (kind : ScriptKind) → IsKindOf named actors bytes kind → IsRefusedAs named actors (HasForm bytes) kind
 refused_form named actors bytes why.Syntax is = absurd (never_syntax named actors is.0 is.2)
@@ -278,6 +282,7 @@ refused_form named actors bytes why.UnknownActor is = is
 refused_form named actors bytes why.UnknownName is = is
 refused_form named actors bytes why.Nettype is = is
 refused_form named actors bytes why.AttrLimit is = is
+refused_form named actors bytes why.ScheduleInRun is = is
 refused_form named actors bytes why.Actors is = is
 refused_form named actors bytes why.Expression is = is
 
@@ -285,7 +290,7 @@ refused_form named actors bytes why.Expression is = is
 never_expression : (named : Named) (actors : List (List ℕ)) (form : Form) → least_kind named actors form ≡ Some why.Expression → ⊥
 unfolding chain
 never_expression named actors form is =
-    chain_no_expression (has_wrong_actor named form) (has_unknown_name named form) (has_other_family named form) (is_over_limit form) (is_actor_too_many actors form) is
+    chain_no_expression (has_wrong_actor named form) (has_unknown_name named form) (has_other_family named form) (is_over_limit form) (is_barred_step named form) (is_actor_too_many actors form) is
 
 pub no_expression : (named : Named) (text : List ℕ) (number : ℕ) (conditions : List Condition) → IsRefused named text number why.Expression conditions → ⊥
 no_expression named text number conditions is = never_expression named (actors_of [] is.forms) is.bad_is.0 is.bad_is.2

@@ -24,7 +24,7 @@ use Rattle.script_lines.specs.declared.script.Condition.{Condition}
 use Rattle.script_lines.specs.declared.script.Line.{Line}
 use Rattle.script_lines.specs.declared.script.Line.TheVariants as lines
 use Rattle.script_lines.specs.Grammar.{Command, Open, Close, Add, Del, Disable, Enable, Reload, ReloadIn, ReloadOut, ShowRoute, Form, Sync, Take, Push, Says, HasForm}
-use Rattle.script_lines.specs.Kinds.{place_of, channel_of, protocol_of, session_of, table_of, filter_of, export_table, is_table, is_called, is_bgp, is_bgp_of, is_session_of, is_some_of, is_of_family, lacks, asks_unknown, table_by, default_table, pick_family, has_wrong_actor, has_unknown_name, has_other_family, is_over_limit, is_actor_too_many, least_kind}
+use Rattle.script_lines.specs.Kinds.{place_of, channel_of, protocol_of, session_of, table_of, filter_of, export_table, is_table, is_called, is_bgp, is_bgp_of, is_session_of, is_some_of, is_of_family, lacks, asks_unknown, table_by, default_table, pick_family, has_wrong_actor, has_unknown_name, has_other_family, is_over_limit, is_barred_step, is_actor_too_many, least_kind}
 use Rattle.script_lines.specs.Script.{AreForms, IsScript, NamesWhatIs, AsksWhatIs, HasTables, with_actor, actors_of, spoken, onto_first, with_line, phases_of, asked_in, condition_in, condition_at, conditions_of, choice_by, query_of, query_at, queries_of}
 use Rattle.script_lines.proofs.LineParts.{least_fine, said_question}
 use Rattle.script_lines.proofs.Places.{actors_stay, place_push}
@@ -110,22 +110,23 @@ grown actors [] = omega arith
 grown actors (said ∷ forms) = omega (arith, grown_one actors said.1, grown (with_actor actors said.1) forms)
 
 -- no kind applies
-chain : Bool → Bool → Bool → Bool → Bool → Option ScriptKind
-chain a b c d e = cond a (Some why.UnknownActor) (cond b (Some why.UnknownName) (cond c (Some why.Nettype) (cond d (Some why.AttrLimit) (cond e (Some why.Actors) None))))
+chain : Bool → Bool → Bool → Bool → Bool → Bool → Option ScriptKind
+chain a b c d e f =
+    cond a (Some why.UnknownActor) (cond b (Some why.UnknownName) (cond c (Some why.Nettype) (cond d (Some why.AttrLimit) (cond e (Some why.ScheduleInRun) (cond f (Some why.Actors) None)))))
 
-chain_none : (a b c d e : Bool) → chain a b c d e ≡ None → (a ≡ false) × (b ≡ false) × (c ≡ false) × (d ≡ false)
+chain_none : (a b c d e f : Bool) → chain a b c d e f ≡ None → (a ≡ false) × (b ≡ false) × (c ≡ false) × (d ≡ false)
 unfolding chain
-chain_none true b c d e is = absurd (none_some _ (sym is))
-chain_none false true c d e is = absurd (none_some _ (sym is))
-chain_none false false true d e is = absurd (none_some _ (sym is))
-chain_none false false false true e is = absurd (none_some _ (sym is))
-chain_none false false false false e is = (refl, refl, refl, refl)
+chain_none true b c d e f is = absurd (none_some _ (sym is))
+chain_none false true c d e f is = absurd (none_some _ (sym is))
+chain_none false false true d e f is = absurd (none_some _ (sym is))
+chain_none false false false true e f is = absurd (none_some _ (sym is))
+chain_none false false false false e f is = (refl, refl, refl, refl)
 
 all_fine : (named : Named) (actors : List (List ℕ)) (form : Form) → least_kind named actors form ≡ None
     → (has_wrong_actor named form ≡ false) × (has_unknown_name named form ≡ false) × (has_other_family named form ≡ false) × (is_over_limit form ≡ false)
 unfolding chain
 all_fine named actors form is =
-    chain_none (has_wrong_actor named form) (has_unknown_name named form) (has_other_family named form) (is_over_limit form) (is_actor_too_many actors form) is
+    chain_none (has_wrong_actor named form) (has_unknown_name named form) (has_other_family named form) (is_over_limit form) (is_barred_step named form) (is_actor_too_many actors form) is
 
 not_false : (b : Bool) → not b ≡ false → b ≡ true
 not_false true is = refl

@@ -121,7 +121,8 @@ act_of named actor (ShowRoute asked) = acts.Show (plain_query named asked) asked
 -- the kinds that don't rest on who has spoken before
 abbrev pub first_kinds : List ScriptKind
 first_kinds =
-    why.Syntax ∷ why.UnknownActor ∷ why.UnknownName ∷ why.Nettype ∷ why.AttrLimit ∷ []
+    why.Syntax ∷ why.UnknownActor ∷ why.UnknownName ∷ why.Nettype ∷ why.AttrLimit
+    ∷ why.ScheduleInRun ∷ []
 
 abbrev pub first_kind : Named → Form → Option ScriptKind
 first_kind named form = find (applies named [] form) first_kinds
@@ -220,6 +221,9 @@ IsNoStep named words why.UnknownName =
 IsNoStep named words why.AttrLimit =
     (name : List ℕ) × (count : ℕ) × AreStep words name count
     × (is_none (channel_of named name) ≡ false) × (fits count ≡ false)
+IsNoStep named words why.ScheduleInRun =
+    (name : List ℕ) × (count : ℕ) × AreStep words name count
+    × (is_none (channel_of named name) ≡ false) × (fits count ≡ true) × (named.schedule ≡ false)
 IsNoStep named words kind = ⊥
 
 -- a channel's name and a number that are refused nowhere
@@ -228,6 +232,7 @@ pub record IsStepOf (named : Named) (words : List (List ℕ)) (channel count : �
   pub is : AreStep words name count
   pub channel_is : channel_of named name ≡ Some channel
   pub fine : fits count ≡ true
+  pub allowed : named.schedule ≡ true
 
 abbrev pub Steps : Named → List (List ℕ) → Result (ℕ × ℕ) LineFault → Type 0
 Steps named words result =

@@ -1,6 +1,6 @@
 -- Why a line that is of the grammar is refused: each kind by itself (`has_wrong_actor`,
--- `has_unknown_name`, `has_other_family`, `is_over_limit`, `is_actor_too_many`), and the least of
--- those that apply (`least_kind`). What scripts can name (`channel_of`, `protocol_of`,
+-- `has_unknown_name`, `has_other_family`, `is_over_limit`, `is_barred_step`, `is_actor_too_many`),
+-- and the least of those that apply (`least_kind`). What scripts can name (`channel_of`, `protocol_of`,
 -- `session_of`, `is_of_family`, `table_of`, `filter_of`), by names, kinds of protocols and families;
 -- which table is asked (`asked_table`); who has spoken before. A kind that rests on what is unknown
 -- doesn't apply.
@@ -8,7 +8,8 @@
 -- From: own, this program's format of scripts; limits of numbers are those of specs/Limits of
 -- announcements.
 -- Example: `!take nope 4294967296` is S3; an `add` by no bgp protocol has no S4, and `show route
--- 2001:db8::/32 table nope` is S3.
+-- 2001:db8::/32 table nope` is S3. Where `!` lines are barred `!take p1 1` is S6, and `!take nope 1`
+-- still S3.
 use Rattle.std.specs.Prelude.{ℕ, ◌<◌, ◌^◌, Bool, true, false, not, ◌&&◌, ◌||◌, nat_le}
 use Rattle.std.specs.Prelude.{is_some, is_none, option_map, option_and_then}
 use Rattle.std.specs.Prelude.{List, [], ◌∷◌, length, Option, None, Some}
@@ -28,7 +29,8 @@ use Rattle.script_lines.specs.declared.named.ProtocolKind.TheVariants.{Bgp}
 use Rattle.script_lines.specs.declared.faults.ScriptKind.{ScriptKind}
 use Rattle.script_lines.specs.declared.faults.ScriptKind.TheVariants.{Syntax, UnknownActor}
 use Rattle.script_lines.specs.declared.faults.ScriptKind.TheVariants.{UnknownName, Nettype}
-use Rattle.script_lines.specs.declared.faults.ScriptKind.TheVariants.{AttrLimit, Actors, Expression}
+use Rattle.script_lines.specs.declared.faults.ScriptKind.TheVariants.{AttrLimit, ScheduleInRun, Actors}
+use Rattle.script_lines.specs.declared.faults.ScriptKind.TheVariants.{Expression}
 use Rattle.script_lines.specs.Grammar.{Command, Open, Close, Add, Del, Disable, Enable, Reload}
 use Rattle.script_lines.specs.Grammar.{ReloadIn, ReloadOut, ShowRoute}
 use Rattle.script_lines.specs.Grammar.{Form, Take, Push, Says}
@@ -195,6 +197,12 @@ is_over_limit (Push channel count) = not (fits count)
 is_over_limit (Says actor (Add net given)) = not (given_fits given)
 is_over_limit _ = false
 
+-- A take or a push, where scripts may not say which channel works when.
+abbrev pub is_barred_step : Named → Form → Bool
+is_barred_step named (Take channel count) = not named.schedule
+is_barred_step named (Push channel count) = not named.schedule
+is_barred_step named _ = false
+
 -- The first line of a 65th actor.
 abbrev pub is_actor_too_many : List (List ℕ) → Form → Bool
 is_actor_too_many actors (Says actor command) =
@@ -208,12 +216,14 @@ applies named actors form UnknownActor = has_wrong_actor named form
 applies named actors form UnknownName = has_unknown_name named form
 applies named actors form Nettype = has_other_family named form
 applies named actors form AttrLimit = is_over_limit form
+applies named actors form ScheduleInRun = is_barred_step named form
 applies named actors form Actors = is_actor_too_many actors form
 applies named actors form Expression = false
 
 -- all kinds that are judged here, the least first
 abbrev pub kinds : List ScriptKind
-kinds = Syntax ∷ UnknownActor ∷ UnknownName ∷ Nettype ∷ AttrLimit ∷ Actors ∷ []
+kinds =
+    Syntax ∷ UnknownActor ∷ UnknownName ∷ Nettype ∷ AttrLimit ∷ ScheduleInRun ∷ Actors ∷ []
 
 -- the least kind that applies
 abbrev pub least_kind : Named → List (List ℕ) → Form → Option ScriptKind

@@ -23,6 +23,9 @@ pub enum ScriptKind {
     /// or there are over 64 different communities.
     #[error("S5 AttrLimit")]
     AttrLimit,
+    /// A `!` line, where scripts may not say which channel works when.
+    #[error("S6 ScheduleInRun")]
+    ScheduleInRun,
     /// The first line of a 65th actor.
     #[error("S7 Actors")]
     Actors,

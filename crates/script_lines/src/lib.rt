@@ -6,7 +6,7 @@
 //! `@x show route table t6 where net.len > 8`. Blank lines and comments are passed over and counted.
 //! `read_script` makes of a text the phases with their `Line`s, the queries and the texts of their
 //! conditions, over the names that a configuration declares (`Named`), or tells the first line that
-//! is refused and why. Whether a condition is one is judged by whoever knows its language, and is
+//! is refused and why. `!` lines can be barred (`Named::schedule`). Whether a condition is one is judged by whoever knows its language, and is
 //! the last of all reasons to refuse a line: so a refusal comes with the conditions before it.
 //!
 //! Contracts see a text as its lines. What a line says by the grammar is a `Form`, with numbers of

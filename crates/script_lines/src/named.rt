@@ -1,4 +1,4 @@
-//! What a configuration declares, as far as scripts can name it.
+//! What a configuration declares, as far as scripts can name it, and whether they may schedule.
 ghost use Rattle.std.specs.Prelude.{◌≡◌, IfOk, find, option_map};
 ghost use Rattle.bits_ip.specs.Address.{family_of};
 ghost use Rattle.script_lines.specs.Kinds.{place_of, is_called, is_bgp, is_bgp_of, channel_of};
@@ -68,8 +68,9 @@ pub struct NamedTable {
     pub family: Family,
 }
 
-/// What a configuration declares, as far as scripts can name it. Names of protocols differ, and so
-/// do those of channels, of tables and of filters.
+/// What scripts may use: what a configuration declares, as far as they can name it, and whether `!`
+/// lines are for them. Names of protocols differ, and so do those of channels, of tables and of
+/// filters.
 #[derive(Drop)]
 pub struct Named {
     /// The protocols in their order.
@@ -81,6 +82,8 @@ pub struct Named {
     pub tables: Seq<NamedTable>,
     /// The names of the filters in their order.
     pub filters: NameList,
+    /// Whether a script may say which channel works when, by `!take` and `!push`.
+    pub schedule: bool,
 }
 
 /// The number of the channel of this name.

@@ -200,7 +200,7 @@ fn push_line(named: &Named, rest: &[u8], reading: &mut Reading) -> Result<(), Li
     Ok(())
 }
 
-/// A channel's number, and how much it does.
+/// A channel's number, and how much it does, where scripts may say that.
 fn read_step(named: &Named, rest: &[u8]) -> Result<(u32, u32), LineFault>
     requires { AreFew named.now }
     ensures { Steps named.now (words_of rest.now) result }
@@ -214,6 +214,9 @@ fn read_step(named: &Named, rest: &[u8]) -> Result<(u32, u32), LineFault>
     let Some(count) = count else {
         return Err(LineFault::Refused(ScriptKind::AttrLimit));
     };
+    if !named.schedule {
+        return Err(LineFault::Refused(ScriptKind::ScheduleInRun));
+    }
     Ok((channel, count))
 }
 

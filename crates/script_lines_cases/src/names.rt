@@ -69,7 +69,7 @@ fn filters(alloc: Global) -> Result<Vec<Name>, OutOfMemory> {
 /// the pipe a, a pipe with a name of 64 bytes, and the bgp protocol out; and their channels. The
 /// tables: master4 and master6, t4 that p2 reads, t6, and one called all. The filters keep and
 /// count.
-pub fn named(alloc: Global) -> Result<Named, OutOfMemory> {
+pub fn named(alloc: Global, schedule: bool) -> Result<Named, OutOfMemory> {
     let protocols = Seq::from_vec(protocols(alloc)?);
     let channels = Seq::from_vec(channels(alloc)?);
     let tables = Seq::from_vec(tables(alloc)?);
@@ -79,5 +79,6 @@ pub fn named(alloc: Global) -> Result<Named, OutOfMemory> {
         channels,
         tables,
         filters,
+        schedule,
     })
 }

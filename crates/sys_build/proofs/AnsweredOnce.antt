@@ -1,5 +1,5 @@
 -- A text is a script over a system or is refused, and not two of these.
-use Rattle.std.proofs.Common.{◌≡◌, ◌⊎◌, ◌∙◌, sym, ap, subst, refl, ℕ, ◌<◌, ◌≤◌, ◌-◌, ◌^◌, List, [], ◌∷◌, ◌++◌, length, arith, inl, inr}
+use Rattle.std.proofs.Common.{◌≡◌, ◌⊎◌, ◌∙◌, sym, ap, subst, refl, ℕ, Bool, ◌<◌, ◌≤◌, ◌-◌, ◌^◌, List, [], ◌∷◌, ◌++◌, length, arith, inl, inr}
 use Rattle.std.specs.List.{All}
 use Rattle.std.proofs.lemmas.List.Elements.{All-head, All-tail}
 use Rattle.show_route.specs.declared.query.Query.{Query}
@@ -75,56 +75,56 @@ module _ (one_answer : (named : Named) (text : List ℕ) (a b : lines.Answer) �
 
   -- ---- answers
 
-  scripts_agree : (system : System) (text : List ℕ) (p r : List (List Line)) (a b : List (List ℕ)) (q s : List Query) (fs gs : List Filter) → IsScriptOf system text p a q fs → IsScriptOf system text r b s gs
+  scripts_agree : (system : System) (schedule : Bool) (text : List ℕ) (p r : List (List Line)) (a b : List (List ℕ)) (q s : List Query) (fs gs : List Filter) → IsScriptOf system schedule text p a q fs → IsScriptOf system schedule text r b s gs
       → Accepted p a q fs ≡ Accepted r b s gs
-  scripts_agree system text p r a b q s fs gs one two =
-      let same = one_answer (named_of system) text (lines.Accepted p a q one.conditions) (lines.Accepted r b s two.conditions) one.lines_are two.lines_are in
+  scripts_agree system schedule text p r a b q s fs gs one two =
+      let same = one_answer (named_of system schedule) text (lines.Accepted p a q one.conditions) (lines.Accepted r b s two.conditions) one.lines_are two.lines_are in
       let conditions : one.conditions ≡ two.conditions = ap conditions_in same in
       let filters = filters_agree system two.conditions fs gs (subst (λ (l : List Condition). AreAsked system l fs) conditions one.asked) two.asked in
       ap (λ (answer : lines.Answer). with_filters answer fs) same ∙ ap (λ (l : List Filter). Accepted r b s l) filters
 
-  script_or_words : (system : System) (text : List ℕ) (p : List (List Line)) (a : List (List ℕ)) (q : List Query) (fs : List Filter) (line : ℕ) (kind : ScriptKind) → IsScriptOf system text p a q fs → IsRefusedByWords system text line kind → ⊥
-  script_or_words system text p a q fs line kind is refused =
+  script_or_words : (system : System) (schedule : Bool) (text : List ℕ) (p : List (List Line)) (a : List (List ℕ)) (q : List Query) (fs : List Filter) (line : ℕ) (kind : ScriptKind) → IsScriptOf system schedule text p a q fs → IsRefusedByWords system schedule text line kind → ⊥
+  script_or_words system schedule text p a q fs line kind is refused =
       accepted_or_not p a q is.conditions refused.conditions line kind
-      (one_answer (named_of system) text (lines.Accepted p a q is.conditions) (lines.Refused line kind refused.conditions) is.lines_are refused.lines_are)
+      (one_answer (named_of system schedule) text (lines.Accepted p a q is.conditions) (lines.Refused line kind refused.conditions) is.lines_are refused.lines_are)
 
   -- conditions that ask for something aren't refused, whatever the lines come to
-  none_refused : (system : System) (text : List ℕ) (answer : lines.Answer) (filters : List Filter) (line : ℕ) → lines.Answers (named_of system) text answer → AreAsked system (conditions_in answer) filters
-      → IsRefusedByCondition system text line → ⊥
-  none_refused system text answer filters line is asked refused =
-      let same : answer ≡ refused.answer = one_answer (named_of system) text answer refused.answer is refused.lines_are in
+  none_refused : (system : System) (schedule : Bool) (text : List ℕ) (answer : lines.Answer) (filters : List Filter) (line : ℕ) → lines.Answers (named_of system schedule) text answer → AreAsked system (conditions_in answer) filters
+      → IsRefusedByCondition system schedule text line → ⊥
+  none_refused system schedule text answer filters line is asked refused =
+      let same : answer ≡ refused.answer = one_answer (named_of system schedule) text answer refused.answer is refused.lines_are in
       asked_or_refused system (conditions_in refused.answer) filters line (subst (λ (x : lines.Answer). AreAsked system (conditions_in x) filters) same asked) refused.first
 
-  script_or_refused : (system : System) (text : List ℕ) (p : List (List Line)) (a : List (List ℕ)) (q : List Query) (fs : List Filter) (line : ℕ) (kind : ScriptKind) → IsScriptOf system text p a q fs → IsRefusedOf system text line kind → ⊥
-  script_or_refused system text p a q fs line kind is (inl words) = script_or_words system text p a q fs line kind is words
-  script_or_refused system text p a q fs line kind is (inr condition) = none_refused system text (lines.Accepted p a q is.conditions) fs line is.lines_are is.asked condition.1
+  script_or_refused : (system : System) (schedule : Bool) (text : List ℕ) (p : List (List Line)) (a : List (List ℕ)) (q : List Query) (fs : List Filter) (line : ℕ) (kind : ScriptKind) → IsScriptOf system schedule text p a q fs → IsRefusedOf system schedule text line kind → ⊥
+  script_or_refused system schedule text p a q fs line kind is (inl words) = script_or_words system schedule text p a q fs line kind is words
+  script_or_refused system schedule text p a q fs line kind is (inr condition) = none_refused system schedule text (lines.Accepted p a q is.conditions) fs line is.lines_are is.asked condition.1
 
-  words_agree : (system : System) (text : List ℕ) (line other : ℕ) (kind why : ScriptKind) → IsRefusedByWords system text line kind → IsRefusedByWords system text other why → Refused line kind ≡ Refused other why
-  words_agree system text line other kind why one two =
+  words_agree : (system : System) (schedule : Bool) (text : List ℕ) (line other : ℕ) (kind why : ScriptKind) → IsRefusedByWords system schedule text line kind → IsRefusedByWords system schedule text other why → Refused line kind ≡ Refused other why
+  words_agree system schedule text line other kind why one two =
       ap (λ (answer : lines.Answer). with_filters answer [])
-      (one_answer (named_of system) text (lines.Refused line kind one.conditions) (lines.Refused other why two.conditions) one.lines_are two.lines_are)
+      (one_answer (named_of system schedule) text (lines.Refused line kind one.conditions) (lines.Refused other why two.conditions) one.lines_are two.lines_are)
 
-  words_or_condition : (system : System) (text : List ℕ) (line other : ℕ) (kind : ScriptKind) → IsRefusedByWords system text line kind → IsRefusedByCondition system text other → ⊥
-  words_or_condition system text line other kind words condition =
-      none_refused system text (lines.Refused line kind words.conditions) words.filters other words.lines_are words.asked condition
+  words_or_condition : (system : System) (schedule : Bool) (text : List ℕ) (line other : ℕ) (kind : ScriptKind) → IsRefusedByWords system schedule text line kind → IsRefusedByCondition system schedule text other → ⊥
+  words_or_condition system schedule text line other kind words condition =
+      none_refused system schedule text (lines.Refused line kind words.conditions) words.filters other words.lines_are words.asked condition
 
-  lines_agree : (system : System) (text : List ℕ) (line other : ℕ) → IsRefusedByCondition system text line → IsRefusedByCondition system text other → line ≡ other
-  lines_agree system text line other one two =
-      let same : one.answer ≡ two.answer = one_answer (named_of system) text one.answer two.answer one.lines_are two.lines_are in
+  lines_agree : (system : System) (schedule : Bool) (text : List ℕ) (line other : ℕ) → IsRefusedByCondition system schedule text line → IsRefusedByCondition system schedule text other → line ≡ other
+  lines_agree system schedule text line other one two =
+      let same : one.answer ≡ two.answer = one_answer (named_of system schedule) text one.answer two.answer one.lines_are two.lines_are in
       firsts_agree system (conditions_in two.answer) line other (subst (λ (x : lines.Answer). IsFirstRefused system (conditions_in x) line) same one.first) two.first
 
-  refusals_agree : (system : System) (text : List ℕ) (line other : ℕ) (kind why : ScriptKind) → IsRefusedOf system text line kind → IsRefusedOf system text other why → Refused line kind ≡ Refused other why
-  refusals_agree system text line other kind why (inl one) (inl two) = words_agree system text line other kind why one two
-  refusals_agree system text line other kind why (inl one) (inr two) = absurd (words_or_condition system text line other kind one two.1)
-  refusals_agree system text line other kind why (inr one) (inl two) = absurd (words_or_condition system text other line why two one.1)
-  refusals_agree system text line other kind why (inr one) (inr two) =
-      ap (λ (n : ℕ). Refused n kind) (lines_agree system text line other one.1 two.1) ∙ ap (λ (k : ScriptKind). Refused other k) (one.0 ∙ sym two.0)
+  refusals_agree : (system : System) (schedule : Bool) (text : List ℕ) (line other : ℕ) (kind why : ScriptKind) → IsRefusedOf system schedule text line kind → IsRefusedOf system schedule text other why → Refused line kind ≡ Refused other why
+  refusals_agree system schedule text line other kind why (inl one) (inl two) = words_agree system schedule text line other kind why one two
+  refusals_agree system schedule text line other kind why (inl one) (inr two) = absurd (words_or_condition system schedule text line other kind one two.1)
+  refusals_agree system schedule text line other kind why (inr one) (inl two) = absurd (words_or_condition system schedule text other line why two one.1)
+  refusals_agree system schedule text line other kind why (inr one) (inr two) =
+      ap (λ (n : ℕ). Refused n kind) (lines_agree system schedule text line other one.1 two.1) ∙ ap (λ (k : ScriptKind). Refused other k) (one.0 ∙ sym two.0)
 
-  pub answers_agree : (system : System) (text : List ℕ) (a b : Answer) → Answers system text a → Answers system text b → a ≡ b
-  answers_agree system text (Accepted p a q fs) (Accepted r b s gs) one two = scripts_agree system text p r a b q s fs gs one two
-  answers_agree system text (Accepted p a q fs) (Refused line kind) one two = absurd (script_or_refused system text p a q fs line kind one two)
-  answers_agree system text (Refused line kind) (Accepted p a q fs) one two = absurd (script_or_refused system text p a q fs line kind two one)
-  answers_agree system text (Refused line kind) (Refused other why) one two = refusals_agree system text line other kind why one two
+  pub answers_agree : (system : System) (schedule : Bool) (text : List ℕ) (a b : Answer) → Answers system schedule text a → Answers system schedule text b → a ≡ b
+  answers_agree system schedule text (Accepted p a q fs) (Accepted r b s gs) one two = scripts_agree system schedule text p r a b q s fs gs one two
+  answers_agree system schedule text (Accepted p a q fs) (Refused line kind) one two = absurd (script_or_refused system schedule text p a q fs line kind one two)
+  answers_agree system schedule text (Refused line kind) (Accepted p a q fs) one two = absurd (script_or_refused system schedule text p a q fs line kind two one)
+  answers_agree system schedule text (Refused line kind) (Refused other why) one two = refusals_agree system schedule text line other kind why one two
 
 -- ---- each text has an answer
 
@@ -171,17 +171,17 @@ module _ (each_condition : (system : System) (text : List ℕ) → length text <
     | inr refused ↦ inr (c.line, at_once system c more refused)
   ]
 
-  accepted_told : (system : System) (text : List ℕ) (p : List (List Line)) (a : List (List ℕ)) (q : List Query) (conditions : List Condition) → lines.Answers (named_of system) text (lines.Accepted p a q conditions)
-      → AreTold system conditions → (answer : Answer) × Answers system text answer
-  accepted_told system text p a q conditions is (inl asked) = (Accepted p a q asked.0, record { conditions = conditions; lines_are = is; asked = asked.1 })
-  accepted_told system text p a q conditions is (inr first) =
+  accepted_told : (system : System) (schedule : Bool) (text : List ℕ) (p : List (List Line)) (a : List (List ℕ)) (q : List Query) (conditions : List Condition) → lines.Answers (named_of system schedule) text (lines.Accepted p a q conditions)
+      → AreTold system conditions → (answer : Answer) × Answers system schedule text answer
+  accepted_told system schedule text p a q conditions is (inl asked) = (Accepted p a q asked.0, record { conditions = conditions; lines_are = is; asked = asked.1 })
+  accepted_told system schedule text p a q conditions is (inr first) =
       (Refused first.0 Expression, inr (refl, record { answer = lines.Accepted p a q conditions; lines_are = is; first = first.1 }))
 
-  refused_told : (system : System) (text : List ℕ) (number : ℕ) (kind : ScriptKind) (conditions : List Condition) → lines.Answers (named_of system) text (lines.Refused number kind conditions)
-      → AreTold system conditions → (answer : Answer) × Answers system text answer
-  refused_told system text number kind conditions is (inl asked) =
+  refused_told : (system : System) (schedule : Bool) (text : List ℕ) (number : ℕ) (kind : ScriptKind) (conditions : List Condition) → lines.Answers (named_of system schedule) text (lines.Refused number kind conditions)
+      → AreTold system conditions → (answer : Answer) × Answers system schedule text answer
+  refused_told system schedule text number kind conditions is (inl asked) =
       (Refused number kind, inl (record { conditions = conditions; filters = asked.0; lines_are = is; asked = asked.1 }))
-  refused_told system text number kind conditions is (inr first) =
+  refused_told system schedule text number kind conditions is (inr first) =
       (Refused first.0 Expression, inr (refl, record { answer = lines.Refused number kind conditions; lines_are = is; first = first.1 }))
 
 -- no condition is longer than the text
@@ -192,13 +192,13 @@ module _ (each_answer : (named : Named) (text : List ℕ) → (answer : lines.An
     (parts : (named : Named) (text : List ℕ) (p : List (List Line)) (a : List (List ℕ)) (q : List Query) (conditions : List Condition) → lines.IsScript named text p a q conditions → All (λ (c : Condition). length c.text ≤ length text) conditions)
     (parts_before : (named : Named) (text : List ℕ) (number : ℕ) (kind : ScriptKind) (conditions : List Condition) → lines.IsRefused named text number kind conditions → All (λ (c : Condition). length c.text ≤ length text) conditions)
     (each_condition : (system : System) (text : List ℕ) → length text < 2 ^ 32 - 1 → ((f : Filter) × IsCondition system text f) ⊎ RefusesCondition system text) where
-  by_lines : (system : System) (text : List ℕ) → length text < 2 ^ 32 - 1 → (answer : lines.Answer) → lines.Answers (named_of system) text answer → (found : Answer) × Answers system text found
-  by_lines system text short (lines.Accepted p a q conditions) is =
-      accepted_told each_condition system text p a q conditions is
-      (conditions_told each_condition system conditions (short_parts text conditions short (parts (named_of system) text p a q conditions is)))
-  by_lines system text short (lines.Refused number kind conditions) is =
-      refused_told each_condition system text number kind conditions is
-      (conditions_told each_condition system conditions (short_parts text conditions short (parts_before (named_of system) text number kind conditions is)))
+  by_lines : (system : System) (schedule : Bool) (text : List ℕ) → length text < 2 ^ 32 - 1 → (answer : lines.Answer) → lines.Answers (named_of system schedule) text answer → (found : Answer) × Answers system schedule text found
+  by_lines system schedule text short (lines.Accepted p a q conditions) is =
+      accepted_told each_condition system schedule text p a q conditions is
+      (conditions_told each_condition system conditions (short_parts text conditions short (parts (named_of system schedule) text p a q conditions is)))
+  by_lines system schedule text short (lines.Refused number kind conditions) is =
+      refused_told each_condition system schedule text number kind conditions is
+      (conditions_told each_condition system conditions (short_parts text conditions short (parts_before (named_of system schedule) text number kind conditions is)))
 
-  pub answer_told : (system : System) (text : List ℕ) → length text < 2 ^ 32 - 1 → (answer : Answer) × Answers system text answer
-  answer_told system text short = let found = each_answer (named_of system) text in by_lines system text short found.0 found.1
+  pub answer_told : (system : System) (schedule : Bool) (text : List ℕ) → length text < 2 ^ 32 - 1 → (answer : Answer) × Answers system schedule text answer
+  answer_told system schedule text short = let found = each_answer (named_of system schedule) text in by_lines system schedule text short found.0 found.1

@@ -1,5 +1,5 @@
 -- A configuration of few protocols names few protocols and few channels.
-use Rattle.std.proofs.Common.{◌≡◌, ap, refl, ◌*◌, ◌^◌, ◌<◌, ◌≤◌, ◌-◌, ℕ, suc, ◌+◌, List, [], ◌∷◌, length, map, arith}
+use Rattle.std.proofs.Common.{◌≡◌, ap, refl, ◌*◌, ◌^◌, ◌<◌, ◌≤◌, ◌-◌, ℕ, Bool, suc, ◌+◌, List, [], ◌∷◌, length, map, arith}
 use Rattle.std.proofs.lemmas.List.{length-append, length-map}
 use Rattle.core_setup.specs.Setup as setup
 use Rattle.script_lines.specs.Kinds.{AreFew}
@@ -21,9 +21,9 @@ few_channels (p ∷ more) = omega (arith, length-append (channels_of p.name p.bo
 pub are_few : ((text : List ℕ) (system : System) → IsSystem text system → length system.protocols ≤ 256)
     → ((text : List ℕ) (system : System) → IsSystem text system → length system.tables ≤ 64)
     → ((text : List ℕ) (system : System) → IsSystem text system → length system.filters ≤ length text)
-    → (text : List ℕ) (system : System) → IsSystem text system → length text < 2 ^ 32 → AreFew (named_of system)
+    → (text : List ℕ) (system : System) → IsSystem text system → length text < 2 ^ 32 → (schedule : Bool) → AreFew (named_of system schedule)
 unfolding named_of
-are_few few tables filters text system is short = record {
+are_few few tables filters text system is short schedule = record {
   protocols = omega (arith, few text system is, length-map system.protocols named_protocol);
   channels = omega (arith, few text system is, few_channels system.protocols);
   tables = omega (arith, tables text system is, length-map system.tables named_table);
@@ -31,9 +31,9 @@ are_few few tables filters text system is short = record {
 }
 
 pub have_room : ((text : List ℕ) (system : System) → IsSystem text system → length system.filters ≤ length text)
-    → (conf : List ℕ) (n : ℕ) (system : System) → IsSystem conf system → length conf + n < 2 ^ 32 - 1 → length (named_of system).filters + n < 2 ^ 32 - 1
+    → (conf : List ℕ) (n : ℕ) (system : System) (schedule : Bool) → IsSystem conf system → length conf + n < 2 ^ 32 - 1 → length (named_of system schedule).filters + n < 2 ^ 32 - 1
 unfolding named_of
-have_room filters conf n system is short = omega (arith, short, filters conf system is, length-map system.filters (λ (f : List ℕ × Filter). f.0))
+have_room filters conf n system schedule is short = omega (arith, short, filters conf system is, length-map system.filters (λ (f : List ℕ × Filter). f.0))
 
 from_as_many : (n : ℕ) (ps : List Protocol) → length (protocols_from n ps) ≡ length ps
 from_as_many n [] = refl

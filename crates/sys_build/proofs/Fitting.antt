@@ -1,5 +1,5 @@
 -- The numbers of tables fit 32 bits, since there are few tables.
-use Rattle.std.proofs.Common.{◌≡◌, refl, sym, subst, ℕ, zero, suc, ◌<◌, ◌^◌, List, [], ◌∷◌, length, map, get_or, arith}
+use Rattle.std.proofs.Common.{◌≡◌, refl, sym, subst, ℕ, Bool, zero, suc, ◌<◌, ◌^◌, List, [], ◌∷◌, length, map, get_or, arith}
 use Rattle.std.specs.List.{All}
 use Rattle.std.specs.Prelude.{slice_index_or}
 use Rattle.std.proofs.lemmas.List.Elements.{All-cons, All-head, All-nil, All-tail}
@@ -40,7 +40,7 @@ module _ (scope : Scope) (filters : List TFilter) (names : List (List ℕ)) wher
       let more = All-tail (λ (p : NamedProtocol). p.table < n) (named_protocol (protocol_seen scope filters names d)) (map named_protocol (map (protocol_seen scope filters names) defs)) all in
       All-cons Fits32 d defs (omega (arith, few, first, held_is d.body)) (all_fit defs n few more)
 
-pub tables_fit : (held : Held) → AreFew (named_of (system_of held)) → HasTables (named_of (system_of held)) → All Fits32 held.checked.protocols.items
+pub tables_fit : (held : Held) (schedule : Bool) → AreFew (named_of (system_of held) schedule) → HasTables (named_of (system_of held) schedule) → All Fits32 held.checked.protocols.items
 unfolding named_of
-tables_fit held few tables =
-    all_fit held.checked.declared.scope held.checked.filters.items held.names held.checked.protocols.items (length (named_of (system_of held)).tables) few.tables tables.protocols
+tables_fit held schedule few tables =
+    all_fit held.checked.declared.scope held.checked.filters.items held.names held.checked.protocols.items (length (named_of (system_of held) schedule).tables) few.tables tables.protocols

@@ -1,5 +1,5 @@
 -- What is judged of conditions, one after another, and of a text by its lines and its conditions.
-use Rattle.std.proofs.Common.{◌≡◌, ◌∙◌, sym, ap, subst, ℕ, zero, suc, ◌+◌, ◌<◌, ◌≤◌, All, List, [], ◌∷◌, ◌++◌, length, map, take, drop, get_or, Result, Ok, Err, arith, inl, inr}
+use Rattle.std.proofs.Common.{◌≡◌, ◌∙◌, sym, ap, subst, ℕ, Bool, zero, suc, ◌+◌, ◌<◌, ◌≤◌, All, List, [], ◌∷◌, ◌++◌, length, map, take, drop, get_or, Result, Ok, Err, arith, inl, inr}
 use Rattle.std.specs.Prelude.{IfOk, IsErrAnd, MatchResult}
 use Rattle.std.proofs.lemmas.List.{map-append, take_all, take_more}
 use Rattle.std.proofs.lemmas.List.Elements.{All-push}
@@ -82,10 +82,10 @@ one_before P old new x pushed all is = subst (λ (l : List _). All P l) (sym pus
 
 -- ---- texts
 
-pub told_first : (system : System) (text : List ℕ) (answer : lines.Answer) (fault : ReadFault) → lines.Answers (named_of system) text answer → TellsFirst system (conditions_in answer) fault → Tells system text fault
-told_first system text answer (faults.Refused line kind) is told = inr (told.0, record { answer = answer; lines_are = is; first = told.1 })
-told_first system text answer faults.Memory is told = tt
+pub told_first : (system : System) (schedule : Bool) (text : List ℕ) (answer : lines.Answer) (fault : ReadFault) → lines.Answers (named_of system schedule) text answer → TellsFirst system (conditions_in answer) fault → Tells system schedule text fault
+told_first system schedule text answer (faults.Refused line kind) is told = inr (told.0, record { answer = answer; lines_are = is; first = told.1 })
+told_first system schedule text answer faults.Memory is told = tt
 
-pub told_words : (system : System) (text : List ℕ) (line : ℕ) (kind : ScriptKind) (conditions : List Condition) (filters : List Filter) → lines.Answers (named_of system) text (lines.Refused line kind conditions)
-    → AreAsked system conditions filters → IsRefusedOf system text line kind
-told_words system text line kind conditions filters is asked = inl (record { conditions = conditions; filters = filters; lines_are = is; asked = asked })
+pub told_words : (system : System) (schedule : Bool) (text : List ℕ) (line : ℕ) (kind : ScriptKind) (conditions : List Condition) (filters : List Filter) → lines.Answers (named_of system schedule) text (lines.Refused line kind conditions)
+    → AreAsked system conditions filters → IsRefusedOf system schedule text line kind
+told_words system schedule text line kind conditions filters is asked = inl (record { conditions = conditions; filters = filters; lines_are = is; asked = asked })

@@ -27,11 +27,11 @@ channels_count tables number (p ∷ more) =
     ∙ ap (λ (l : List (List ℕ)). map (λ (c : Channel). c.name) (channels_in tables number p.name (body_of number p.body)) ++ l) (channels_count tables (number + 1) more)
     ∙ sym (map-append (λ (c : Channel). c.name) (channels_in tables number p.name (body_of number p.body)) (channels_from tables (number + 1) (protocols_from (number + 1) more)))
 
-pub protocols_alike : (system : System) (cells : ℕ) (filters : List Filter) (queries : List Query)
-    → map (λ (p : NamedProtocol). p.name) (named_of system).protocols ≡ map (λ (p : setup.Protocol). p.name) (setup_of system cells filters queries).protocols
+pub protocols_alike : (system : System) (schedule : Bool) (cells : ℕ) (filters : List Filter) (queries : List Query)
+    → map (λ (p : NamedProtocol). p.name) (named_of system schedule).protocols ≡ map (λ (p : setup.Protocol). p.name) (setup_of system cells filters queries).protocols
 unfolding named_of setup_of
-protocols_alike system cells filters queries = protocols_count 0 system.protocols
+protocols_alike system schedule cells filters queries = protocols_count 0 system.protocols
 
-pub channels_alike : (system : System) (cells : ℕ) (filters : List Filter) (queries : List Query) → (named_of system).channels ≡ map (λ (c : Channel). c.name) (channels (setup_of system cells filters queries))
+pub channels_alike : (system : System) (schedule : Bool) (cells : ℕ) (filters : List Filter) (queries : List Query) → (named_of system schedule).channels ≡ map (λ (c : Channel). c.name) (channels (setup_of system cells filters queries))
 unfolding named_of setup_of
-channels_alike system cells filters queries = channels_count system.tables 0 system.protocols
+channels_alike system schedule cells filters queries = channels_count system.tables 0 system.protocols

@@ -108,9 +108,9 @@ tables_there tables (p ∷ more) fit =
     All-cons (λ (q : NamedProtocol). q.table < length (map named_table tables)) (named_protocol p) (map named_protocol more)
     (omega (arith, table_there tables p.body fit.0, length-map tables named_table)) (tables_there tables more fit.1)
 
-pub have_tables : ((text : List ℕ) (system : System) → IsSystem text system → AllFit system.tables system.protocols) → (text : List ℕ) (system : System) → IsSystem text system → HasTables (named_of system)
+pub have_tables : ((text : List ℕ) (system : System) → IsSystem text system → AllFit system.tables system.protocols) → (text : List ℕ) (system : System) → IsSystem text system → (schedule : Bool) → HasTables (named_of system schedule)
 unfolding named_of
-have_tables there text system is = record {
+have_tables there text system is schedule = record {
   masters = omega (arith, some_tables text system is, length-map system.tables named_table);
   protocols = tables_there system.tables system.protocols (there text system is);
 }
@@ -147,9 +147,9 @@ from_as_many : (n : ℕ) (ps : List Protocol) → length (protocols_from n ps) �
 from_as_many n [] = refl
 from_as_many n (p ∷ more) = ap (λ (k : ℕ). suc k) (from_as_many (n + 1) more)
 
-fits_query : (system : System) (conditions : List Filter) (query : Query) → AsksWhatIs (named_of system) (length conditions) query → FitsQuery system.tables (protocols_from 0 system.protocols) (choices_of system conditions) query
+fits_query : (system : System) (schedule : Bool) (conditions : List Filter) (query : Query) → AsksWhatIs (named_of system schedule) (length conditions) query → FitsQuery system.tables (protocols_from 0 system.protocols) (choices_of system conditions) query
 unfolding named_of
-fits_query system conditions query asks = record {
+fits_query system schedule conditions query asks = record {
   table = omega (arith, asks.table, length-map system.tables named_table);
   choice =
       some_below query.choice (length (map (λ (f : List ℕ × Filter). f.0) system.filters) + length conditions) (length (choices_of system conditions))
@@ -162,10 +162,10 @@ fits_query system conditions query asks = record {
   export = some_export system.protocols query.table query.export asks.export;
 }
 
-fit_queries : (system : System) (count : ℕ) (conditions : List Filter) (queries : List Query) → count ≡ length conditions → All (AsksWhatIs (named_of system) count) queries
+fit_queries : (system : System) (schedule : Bool) (count : ℕ) (conditions : List Filter) (queries : List Query) → count ≡ length conditions → All (AsksWhatIs (named_of system schedule) count) queries
     → All (FitsQuery system.tables (protocols_from 0 system.protocols) (choices_of system conditions)) queries
-fit_queries system count conditions queries same all =
-    λ k d below. fits_query system conditions (slice_index_or queries k d) (subst (λ (n : ℕ). AsksWhatIs (named_of system) n (slice_index_or queries k d)) same (all k d below))
+fit_queries system schedule count conditions queries same all =
+    λ k d below. fits_query system schedule conditions (slice_index_or queries k d) (subst (λ (n : ℕ). AsksWhatIs (named_of system schedule) n (slice_index_or queries k d)) same (all k d below))
 
 -- as many conditions as filters
 asked_count : (system : System) (conditions : List Condition) (filters : List Filter) → AreAsked system conditions filters → length conditions ≡ length filters
@@ -179,15 +179,15 @@ module _ (itself : (pipes : List Joint) (a : ℕ) → joined pipes a a ≡ true)
     (forest : (text : List ℕ) (system : System) → IsSystem text system → IsForest (pipes_of system.protocols))
     (asks : (named : Named) (text : List ℕ) (phases : List (List Line)) (actors : List (List ℕ)) (queries : List Query) (conditions : List Condition)
     → HasTables named → IsScript named text phases actors queries conditions → All (AsksWhatIs named (length conditions)) queries) where
-  pub playable : (conf text : List ℕ) (system : System) (phases : List (List Line)) (actors : List (List ℕ)) (queries : List Query) (filters : List Filter) (cells : ℕ)
-      → IsSystem conf system → Answers system text (Accepted phases actors queries filters) → IsSetup (setup_of system cells filters queries)
+  pub playable : (conf text : List ℕ) (system : System) (schedule : Bool) (phases : List (List Line)) (actors : List (List ℕ)) (queries : List Query) (filters : List Filter) (cells : ℕ)
+      → IsSystem conf system → Answers system schedule text (Accepted phases actors queries filters) → IsSetup (setup_of system cells filters queries)
   unfolding setup_of
-  playable conf text system phases actors queries filters cells is script = record {
+  playable conf text system schedule phases actors queries filters cells is script = record {
     tables = omega (arith, some_tables conf system is);
     protocols = protocols_fit itself system.tables [] 0 system.protocols (there conf system is) (all_routes_fit conf system is) (forest conf system is);
     queries =
-        fit_queries system (length script.conditions) filters queries (asked_count system script.conditions filters script.asked)
-        (asks (named_of system) text phases actors queries script.conditions (have_tables there conf system is) script.lines_are);
+        fit_queries system schedule (length script.conditions) filters queries (asked_count system script.conditions filters script.asked)
+        (asks (named_of system schedule) text phases actors queries script.conditions (have_tables there conf system is schedule) script.lines_are);
   }
 
 -- ---- kinds
@@ -203,7 +203,7 @@ kinds_fit tables number [] fit = tt
 kinds_fit tables number (p ∷ more) fit = (body_kind tables number p.body fit.0, kinds_fit tables (number + 1) more fit.1)
 
 pub kinds_are : ((text : List ℕ) (system : System) → IsSystem text system → AllFit system.tables system.protocols)
-    → (text : List ℕ) (system : System) → IsSystem text system → (cells : ℕ) (filters : List Filter) (queries : List Query)
-    → Pairs (λ i (named : NamedProtocol) (p : setup.Protocol). IsKindOf (setup_of system cells filters queries).tables named.kind p.body) 0 (named_of system).protocols (setup_of system cells filters queries).protocols
+    → (text : List ℕ) (system : System) → IsSystem text system → (schedule : Bool) (cells : ℕ) (filters : List Filter) (queries : List Query)
+    → Pairs (λ i (named : NamedProtocol) (p : setup.Protocol). IsKindOf (setup_of system cells filters queries).tables named.kind p.body) 0 (named_of system schedule).protocols (setup_of system cells filters queries).protocols
 unfolding named_of setup_of
-kinds_are there text system is cells filters queries = kinds_fit system.tables 0 system.protocols (there text system is)
+kinds_are there text system is schedule cells filters queries = kinds_fit system.tables 0 system.protocols (there text system is)

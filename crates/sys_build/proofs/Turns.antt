@@ -96,14 +96,14 @@ channels_turn see defs i d old new below is so_far pushed =
     ∙ sym (channels_push (map see (take i defs)) (see d))
     ∙ ap (λ (l : List Protocol). all_channels l) (sym (seen_more see defs i d below is))
 
-pub named_is : (system : System) (protocols : List NamedProtocol) (channels : List (List ℕ)) (tables : List NamedTable) (filters : List (List ℕ)) → protocols ≡ map named_protocol system.protocols → channels ≡ all_channels system.protocols
-    → tables ≡ map named_table system.tables → filters ≡ map (λ filter. filter.0) system.filters → record { protocols = protocols; channels = channels; tables = tables; filters = filters } ≡ named_of system
+pub named_is : (system : System) (schedule : Bool) (protocols : List NamedProtocol) (channels : List (List ℕ)) (tables : List NamedTable) (filters : List (List ℕ)) → protocols ≡ map named_protocol system.protocols → channels ≡ all_channels system.protocols
+    → tables ≡ map named_table system.tables → filters ≡ map (λ filter. filter.0) system.filters → record { protocols = protocols; channels = channels; tables = tables; filters = filters; schedule = schedule } ≡ named_of system schedule
 unfolding named_of
-named_is system protocols channels tables filters protocols_are channels_are tables_are filters_are =
+named_is system schedule protocols channels tables filters protocols_are channels_are tables_are filters_are =
     ap (λ (l : List NamedProtocol). made l channels tables filters) protocols_are
     ∙ ap (λ (l : List (List ℕ)). made (map named_protocol system.protocols) l tables filters) channels_are
     ∙ ap (λ (l : List NamedTable). made (map named_protocol system.protocols) (all_channels system.protocols) l filters) tables_are
     ∙ ap (λ (l : List (List ℕ)). made (map named_protocol system.protocols) (all_channels system.protocols) (map named_table system.tables) l) filters_are
   where
     made : List NamedProtocol → List (List ℕ) → List NamedTable → List (List ℕ) → Named
-    made protocols channels tables filters = record { protocols = protocols; channels = channels; tables = tables; filters = filters }
+    made protocols channels tables filters = record { protocols = protocols; channels = channels; tables = tables; filters = filters; schedule = schedule }

@@ -1,8 +1,8 @@
 -- What scripts can name of a configuration (`named_of`): its protocols with their kinds and tables,
--- its channels, tables and filters; which kind is that of a protocol that is played (`IsKindOf`).
+-- its channels, tables and filters, and whether they may schedule; which kind is that of a protocol that is played (`IsKindOf`).
 -- From: own.
 -- Example: a protocol of BGP is a protocol and a channel of one name.
-use Rattle.std.specs.Prelude.{◌≡◌, ℕ, List, [], ◌∷◌, ◌++◌, map, codes, Some, ⊤}
+use Rattle.std.specs.Prelude.{◌≡◌, ℕ, Bool, List, [], ◌∷◌, ◌++◌, map, codes, Some, ⊤}
 use Rattle.attrs.specs.declared.attributes.Kind.TheVariants.{Bgp, Static}
 use Rattle.bits_ip.specs.declared.address.Family.{Family}
 use Rattle.conf_check.specs.declared.checked.ProtocolBody.{ProtocolBody}
@@ -47,12 +47,13 @@ abbrev pub all_channels : List Protocol → List (List ℕ)
 all_channels [] = []
 all_channels (p ∷ more) = channels_of p.name p.body ++ all_channels more
 
-unfoldable pub named_of : System → Named
-named_of system = record {
+unfoldable pub named_of : System → (schedule : Bool) → Named
+named_of system schedule = record {
   protocols = map named_protocol system.protocols;
   channels = all_channels system.protocols;
   tables = map named_table system.tables;
   filters = map (λ filter. filter.0) system.filters;
+  schedule = schedule;
 }
 
 -- the same number, where the protocol is held in memory; for private contracts

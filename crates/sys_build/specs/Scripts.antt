@@ -1,12 +1,13 @@
 -- What a text is as a script over a system (`Answers`): a script whose conditions ask for what these
 -- filters accept, or where and why it is refused. Its lines are read by the names that the system
 -- has (script_lines); conditions, which stand behind `where`, are judged here, and as the last of a
--- line: the first line counts that is refused for any kind.
+-- line: the first line counts that is refused for any kind. Some scripts may schedule, by `!` lines,
+-- and of others such a line is refused.
 -- Not modelled: what is done with queries (core_setup).
 -- From: own.
 -- Example: of `@x show route where 1` alone the line 1 is refused as an expression, and so it is of
 -- these and a line `@y nope`; of `@y nope` and these the line 1 is refused as Syntax.
-use Rattle.std.specs.Prelude.{◌≡◌, ◌⊎◌, ⊤, ℕ, List, [], ◌∷◌, ◌++◌}
+use Rattle.std.specs.Prelude.{◌≡◌, ◌⊎◌, ⊤, ℕ, Bool, List, [], ◌∷◌, ◌++◌}
 use Rattle.show_route.specs.declared.query.Query.{Query}
 use Rattle.script_lines.specs.Script as lines
 use Rattle.script_lines.specs.declared.faults.ScriptKind.{ScriptKind}
@@ -40,20 +41,24 @@ pub record IsFirstRefused (system : System) (conditions : List Condition) (line 
 
 -- The text is a script of these phases, actors and queries, whose conditions ask for what these
 -- filters accept.
-pub record IsScriptOf (system : System) (text : List ℕ) (phases : List (List Line))
+pub record IsScriptOf
+    (system : System) (schedule : Bool) (text : List ℕ) (phases : List (List Line))
     (actors : List (List ℕ)) (queries : List Query) (filters : List Filter) : Type 0 where
   pub conditions : List Condition
   pub lines_are :
-      lines.Answers (named_of system) text (lines.Accepted phases actors queries conditions)
+      lines.Answers (named_of system schedule) text
+      (lines.Accepted phases actors queries conditions)
   pub asked : AreAsked system conditions filters
 
 -- The line of this number is refused for what its words say, and the conditions before it are
 -- conditions.
-pub record IsRefusedByWords (system : System) (text : List ℕ) (line : ℕ) (kind : ScriptKind)
+pub record IsRefusedByWords
+    (system : System) (schedule : Bool) (text : List ℕ) (line : ℕ) (kind : ScriptKind)
     : Type 0 where
   pub conditions : List Condition
   pub filters : List Filter
-  pub lines_are : lines.Answers (named_of system) text (lines.Refused line kind conditions)
+  pub lines_are :
+      lines.Answers (named_of system schedule) text (lines.Refused line kind conditions)
   pub asked : AreAsked system conditions filters
 
 -- the conditions of lines that aren't refused for their words: of all, or of those before one that is
@@ -62,16 +67,17 @@ conditions_in (lines.Accepted phases actors queries conditions) = conditions
 conditions_in (lines.Refused number kind conditions) = conditions
 
 -- The line of this number is refused for its condition, and no line before it is.
-pub record IsRefusedByCondition (system : System) (text : List ℕ) (line : ℕ) : Type 0 where
+pub record IsRefusedByCondition
+    (system : System) (schedule : Bool) (text : List ℕ) (line : ℕ) : Type 0 where
   pub answer : lines.Answer
-  pub lines_are : lines.Answers (named_of system) text answer
+  pub lines_are : lines.Answers (named_of system schedule) text answer
   pub first : IsFirstRefused system (conditions_in answer) line
 
 -- the line of this number is refused for this kind, and it is the first that is
-abbrev pub IsRefusedOf : System → List ℕ → ℕ → ScriptKind → Type 0
-IsRefusedOf system text line kind =
-    IsRefusedByWords system text line kind
-    ⊎ ((kind ≡ Expression) × IsRefusedByCondition system text line)
+abbrev pub IsRefusedOf : System → (schedule : Bool) → List ℕ → ℕ → ScriptKind → Type 0
+IsRefusedOf system schedule text line kind =
+    IsRefusedByWords system schedule text line kind
+    ⊎ ((kind ≡ Expression) × IsRefusedByCondition system schedule text line)
 
 -- What is answered of a text.
 pub data Answer : Type 0 where
@@ -79,16 +85,17 @@ pub data Answer : Type 0 where
       → (filters : List Filter) → Answer
   Refused : (line : ℕ) → (kind : ScriptKind) → Answer
 
--- This is the answer.
-abbrev pub Answers : System → List ℕ → Answer → Type 0
-Answers system text (Accepted phases actors queries filters) =
-    IsScriptOf system text phases actors queries filters
-Answers system text (Refused line kind) = IsRefusedOf system text line kind
+-- This is the answer, of a script that may schedule or may not.
+abbrev pub Answers : System → (schedule : Bool) → List ℕ → Answer → Type 0
+Answers system schedule text (Accepted phases actors queries filters) =
+    IsScriptOf system schedule text phases actors queries filters
+Answers system schedule text (Refused line kind) = IsRefusedOf system schedule text line kind
 
 -- The fault tells the answer, but for want of memory.
-abbrev pub Tells : System → List ℕ → ReadFault → Type 0
-Tells system text (faults.Refused line kind) = Answers system text (Refused line kind)
-Tells system text faults.Memory = ⊤
+abbrev pub Tells : System → (schedule : Bool) → List ℕ → ReadFault → Type 0
+Tells system schedule text (faults.Refused line kind) =
+    Answers system schedule text (Refused line kind)
+Tells system schedule text faults.Memory = ⊤
 
 -- ---- for private contracts
 

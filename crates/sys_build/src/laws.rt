@@ -1,5 +1,5 @@
 //! What holds of all that an accepted configuration and a script give to play, and of what is named.
-ghost use Rattle.std.specs.Prelude.{◌≡◌, ◌<◌, ◌≤◌, ◌-◌, ◌^◌, ℕ, List, [], ◌∷◌, Some, length, map};
+ghost use Rattle.std.specs.Prelude.{◌≡◌, ◌<◌, ◌≤◌, ◌-◌, ◌^◌, ℕ, Bool, List, [], ◌∷◌, Some, length, map};
 ghost use Rattle.std.specs.List.{All};
 ghost use Rattle.core_setup.specs.Bridges.{KeepsItsOwn, pipe_at};
 ghost use Rattle.core_setup.specs.Channels.{Channel, channels};
@@ -33,8 +33,8 @@ use script_lines::laws as lines;
 /// A text has one answer at most over a system: it is a script, with its queries and what its
 /// conditions ask for, or it is refused, in one line for one reason.
 pub fn a_text_has_one_answer()
-    ensures { (system : System) (text : List ℕ) (a b : Answer)
-        → Answers system text a → Answers system text b → a ≡ b }
+    ensures { (system : System) (schedule : Bool) (text : List ℕ) (a b : Answer)
+        → Answers system schedule text a → Answers system schedule text b → a ≡ b }
 {
     lines::a_text_has_one_answer();
     conditions_ask_for_one_thing();
@@ -42,8 +42,8 @@ pub fn a_text_has_one_answer()
 
 /// Each text has an answer.
 pub fn each_text_has_an_answer()
-    ensures { (system : System) (text : List ℕ) → length text < 2 ^ 32 - 1
-        → (answer : Answer) × Answers system text answer }
+    ensures { (system : System) (schedule : Bool) (text : List ℕ) → length text < 2 ^ 32 - 1
+        → (answer : Answer) × Answers system schedule text answer }
 {
     lines::each_text_has_an_answer();
     lines::conditions_are_short();
@@ -55,9 +55,9 @@ pub fn each_text_has_an_answer()
 /// and so are the nets of configured routes, a pipe joins two tables of one family, and what a query
 /// names is there.
 pub fn accepted_scripts_are_setups()
-    ensures { (conf text : List ℕ) (system : System) (phases : List (List Line))
+    ensures { (conf text : List ℕ) (system : System) (schedule : Bool) (phases : List (List Line))
         (actors : List (List ℕ)) (queries : List Query) (filters : List Filter) (cells : ℕ)
-        → IsSystem conf system → Answers system text (Accepted phases actors queries filters)
+        → IsSystem conf system → Answers system schedule text (Accepted phases actors queries filters)
         → IsSetup (setup_of system cells filters queries) }
 {
     joined_tables_are_those_that_pipes_lead_between();
@@ -71,10 +71,10 @@ pub fn accepted_scripts_are_setups()
 /// to the table that it reads, and passes those of all other sources that come there. So nothing goes
 /// back by the pipe that it came by.
 pub fn pipes_keep_their_own()
-    ensures { (conf text : List ℕ) (system : System) (phases : List (List Line))
+    ensures { (conf text : List ℕ) (system : System) (schedule : Bool) (phases : List (List Line))
         (actors : List (List ℕ)) (queries : List Query) (filters : List Filter)
         (cells number : ℕ) (p : Pipe) (d e num : ℕ) → IsSystem conf system
-        → Answers system text (Accepted phases actors queries filters)
+        → Answers system schedule text (Accepted phases actors queries filters)
         → pipe_at (setup_of system cells filters queries) number ≡ Some p
         → (rules_of (setup_of system cells filters queries)).belong number ≡ d ∷ e ∷ []
         → KeepsItsOwn (setup_of system cells filters queries) d e num
@@ -88,22 +88,22 @@ pub fn pipes_keep_their_own()
 
 /// Each line of an accepted script names what there is, and at most 64 speak.
 pub fn accepted_scripts_name_what_is()
-    ensures lines { (system : System) (text : List ℕ) (phases : List (List Line))
+    ensures lines { (system : System) (schedule : Bool) (text : List ℕ) (phases : List (List Line))
         (actors : List (List ℕ)) (queries : List Query) (filters : List Filter)
-        → Answers system text (Accepted phases actors queries filters)
-        → All (All (NamesWhatIs (named_of system) actors (length queries))) phases }
-    ensures actors { (system : System) (text : List ℕ) (phases : List (List Line))
+        → Answers system schedule text (Accepted phases actors queries filters)
+        → All (All (NamesWhatIs (named_of system schedule) actors (length queries))) phases }
+    ensures actors { (system : System) (schedule : Bool) (text : List ℕ) (phases : List (List Line))
         (actors : List (List ℕ)) (queries : List Query) (filters : List Filter)
-        → Answers system text (Accepted phases actors queries filters) → length actors ≤ 64 }
+        → Answers system schedule text (Accepted phases actors queries filters) → length actors ≤ 64 }
 {
     lines::a_script_names_what_is();
 }
 
 /// What an accepted script announces to a protocol is of the family of the protocol's table.
 pub fn accepted_scripts_fit_their_tables()
-    ensures { (conf text : List ℕ) (system : System) (phases : List (List Line))
+    ensures { (conf text : List ℕ) (system : System) (schedule : Bool) (phases : List (List Line))
         (actors : List (List ℕ)) (queries : List Query) (filters : List Filter) (cells : ℕ)
-        → IsSystem conf system → Answers system text (Accepted phases actors queries filters)
+        → IsSystem conf system → Answers system schedule text (Accepted phases actors queries filters)
         → All (All (FitsLine (setup_of system cells filters queries))) phases }
 {
     kinds_are_those_of_the_setup();
@@ -113,22 +113,22 @@ pub fn accepted_scripts_fit_their_tables()
 /// The numbers by which scripts name protocols and channels are those of the setup, and so those of
 /// its reports.
 pub fn names_count_as_the_setup()
-    ensures protocols { (system : System) (cells : ℕ) (filters : List Filter)
+    ensures protocols { (system : System) (schedule : Bool) (cells : ℕ) (filters : List Filter)
         (queries : List Query)
-        → map (λ (p : NamedProtocol). p.name) (named_of system).protocols
+        → map (λ (p : NamedProtocol). p.name) (named_of system schedule).protocols
         ≡ map (λ (p : Protocol). p.name) (setup_of system cells filters queries).protocols }
-    ensures channels { (system : System) (cells : ℕ) (filters : List Filter)
-        (queries : List Query) → (named_of system).channels
+    ensures channels { (system : System) (schedule : Bool) (cells : ℕ) (filters : List Filter)
+        (queries : List Query) → (named_of system schedule).channels
         ≡ map (λ (c : Channel). c.name) (channels (setup_of system cells filters queries)) }
 {}
 
 /// Scripts know each protocol of an accepted configuration as what it is, with the family of its
 /// table.
 pub fn kinds_are_those_of_the_setup()
-    ensures { (text : List ℕ) (system : System) → IsSystem text system → (cells : ℕ)
+    ensures { (text : List ℕ) (system : System) → IsSystem text system → (schedule : Bool) (cells : ℕ)
         (filters : List Filter) (queries : List Query)
         → Pairs (λ i named p. IsKindOf (setup_of system cells filters queries).tables named.kind
-        p.body) 0 (named_of system).protocols
+        p.body) 0 (named_of system schedule).protocols
         (setup_of system cells filters queries).protocols }
 {
     channels_have_their_tables();
@@ -138,7 +138,7 @@ pub fn kinds_are_those_of_the_setup()
 /// protocols and 64 tables, and no more filters than bytes.
 pub fn accepted_configurations_are_few()
     ensures { (text : List ℕ) (system : System) → IsSystem text system → length text < 2 ^ 32
-        → AreFew (named_of system) }
+        → (schedule : Bool) → AreFew (named_of system schedule) }
 {
     configurations_have_few_protocols();
     configurations_have_few_tables_and_filters();
@@ -147,7 +147,7 @@ pub fn accepted_configurations_are_few()
 /// An accepted configuration has the tables master4 and master6, and those of its protocols.
 pub fn accepted_configurations_have_their_tables()
     ensures { (text : List ℕ) (system : System) → IsSystem text system
-        → HasTables (named_of system) }
+        → (schedule : Bool) → HasTables (named_of system schedule) }
 {
     channels_have_their_tables();
 }

@@ -16,13 +16,13 @@ use conf_system::System;
 use script_lines::{Name, NameList, Named, NamedProtocol, NamedTable, ProtocolKind};
 use std::alloc::Global;
 
-/// What scripts can name of a configuration.
+/// What scripts can name of a configuration, and whether they may schedule.
 ///
 /// `OutOfMemory` comes where memory is refused.
-pub fn named(alloc: Global, system: &System) -> Result<Named, OutOfMemory>
-    requires few { AreFew (named_of (system_of system.now)) }
-    requires tables { HasTables (named_of (system_of system.now)) }
-    ensures { IfOk result (λ named. named ≡ named_of (system_of system.now)) }
+pub fn named(alloc: Global, system: &System, schedule: bool) -> Result<Named, OutOfMemory>
+    requires few { AreFew (named_of (system_of system.now) schedule) }
+    requires tables { HasTables (named_of (system_of system.now) schedule) }
+    ensures { IfOk result (λ named. named ≡ named_of (system_of system.now) schedule) }
 {
     let protocols = protocols(alloc, &system.checked.protocols)?;
     let channels = channels(alloc, &system.checked.protocols)?;
@@ -34,6 +34,7 @@ pub fn named(alloc: Global, system: &System) -> Result<Named, OutOfMemory>
         channels: Seq::from_vec(channels),
         tables: Seq::from_vec(tables),
         filters: listed,
+        schedule,
     })
 }
 

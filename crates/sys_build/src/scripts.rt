@@ -51,33 +51,39 @@ pub enum ReadFault {
 /// # Errors
 /// `Refused` exactly where a line is refused, with the number of the first one and the least kind
 /// that applies to it; that a condition is refused, which stands behind `where`, is the last kind.
-pub fn read_script(alloc: Global, text: &[u8], system: &System) -> Result<ReadScript, ReadFault>
+/// Where scripts may not schedule, a `!` line is refused.
+pub fn read_script(
+    alloc: Global,
+    text: &[u8],
+    system: &System,
+    schedule: bool,
+) -> Result<ReadScript, ReadFault>
     requires { (conf : List ℕ) × IsSystem conf (system_of system.now)
         × (length conf + length text.now < 2 ^ 32 - 1) }
     ensures told { MatchResult result
-        (λ script. Answers (system_of system.now) text.now
+        (λ script. Answers (system_of system.now) schedule text.now
         (Accepted (map (λ phase. phase.items) script.phases.items) script.actors.items
         script.queries.items (map (filter_says system.now) script.filters.items)))
-        (Tells (system_of system.now) text.now) }
+        (Tells (system_of system.now) schedule text.now) }
     ensures before { AllCanRun system.now
         → IfOk result (λ script. All (CanRunOver system.now) script.filters.items) }
 {
     accepted_configurations_are_few();
     accepted_configurations_have_their_tables();
     configurations_have_few_tables_and_filters();
-    let named = match named(alloc, system) {
+    let named = match named(alloc, system, schedule) {
         Ok(named) => named,
         Err(OutOfMemory) => return Err(ReadFault::Memory),
     };
     match script_lines::read_script(alloc, text, &named) {
-        Ok(script) => accepted(alloc, text, system, script),
+        Ok(script) => accepted(alloc, text, system, schedule, script),
         Err(
             ScriptFault::Refused {
                 line,
                 kind,
                 conditions,
             },
-        ) => refused(alloc, text, system, line, kind, &conditions),
+        ) => refused(alloc, text, system, schedule, line, kind, &conditions),
         Err(ScriptFault::Memory) => Err(ReadFault::Memory),
     }
 }
@@ -87,17 +93,18 @@ fn accepted(
     alloc: Global,
     text: &[u8],
     system: &System,
+    schedule: bool,
     script: Script,
 ) -> Result<ReadScript, ReadFault>
     requires short { length text.now < 2 ^ 32 }
-    requires lines { lines.Answers (named_of (system_of system.now)) text.now
+    requires lines { lines.Answers (named_of (system_of system.now) schedule) text.now
         (lines.Accepted (map (λ phase. phase.items) script.phases.items) script.actors.items
         script.queries.items script.conditions.items) }
     ensures told { MatchResult result
-        (λ read. Answers (system_of system.now) text.now
+        (λ read. Answers (system_of system.now) schedule text.now
         (Accepted (map (λ phase. phase.items) read.phases.items) read.actors.items
         read.queries.items (map (filter_says system.now) read.filters.items)))
-        (Tells (system_of system.now) text.now) }
+        (Tells (system_of system.now) schedule text.now) }
     ensures before { AllCanRun system.now
         → IfOk result (λ read. All (CanRunOver system.now) read.filters.items) }
 {
@@ -117,18 +124,19 @@ fn refused(
     alloc: Global,
     text: &[u8],
     system: &System,
+    schedule: bool,
     line: u32,
     kind: ScriptKind,
     conditions: &[Condition],
 ) -> Result<ReadScript, ReadFault>
     requires short { length text.now < 2 ^ 32 }
-    requires lines { lines.Answers (named_of (system_of system.now)) text.now
+    requires lines { lines.Answers (named_of (system_of system.now) schedule) text.now
         (lines.Refused line kind conditions.now) }
     ensures told { MatchResult result
-        (λ read. Answers (system_of system.now) text.now
+        (λ read. Answers (system_of system.now) schedule text.now
         (Accepted (map (λ phase. phase.items) read.phases.items) read.actors.items
         read.queries.items (map (filter_says system.now) read.filters.items)))
-        (Tells (system_of system.now) text.now) }
+        (Tells (system_of system.now) schedule text.now) }
     ensures before { AllCanRun system.now
         → IfOk result (λ read. All (CanRunOver system.now) read.filters.items) }
 {

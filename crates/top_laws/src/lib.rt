@@ -1,6 +1,6 @@
 //! Laws of `top` that nothing running needs: files that are told come to an outcome (`outcomes`),
-//! phases come to one list of reports, which are legal (`reports`), and over files and a sink that
-//! never fail what is required is answered (`surely`).
+//! phases played come to one list of reports, those of a play and of a run are legal (`reports`), and
+//! over files and a sink that never fail what is required is answered (`surely`).
 //!
 //! Not here: that files come to one outcome at most, on which the contract of `top` rests
 //! (`birdcore_top::laws`).

@@ -7,12 +7,13 @@ ghost use Rattle.script_lines.specs.declared.script.Line.{Line};
 ghost use Rattle.sys_run.specs.Scripts.{phase_of};
 ghost use Rattle.birdcore_top.specs.Command.{Command};
 ghost use Rattle.birdcore_top.specs.Outcome.{Held, Played, IsPossible};
-ghost use Rattle.birdcore_top.specs.Written.{ArePlayed};
+ghost use Rattle.birdcore_top.specs.Written.{ArePlayed, AreReportsOf};
 
 use core_setup::laws::{plays_are_legal, reports_are_determined};
 use sys_build::laws::accepted_scripts_are_setups;
 
-/// Phases played come to one list of reports.
+/// Phases played come to one list of reports. Of phases run that isn't said: any legal reports are
+/// theirs.
 pub fn phases_come_to_one_report()
     ensures { (command : Option Command) (held : Held) (setup : Setup)
         (actors : List (List ℕ)) (phases : List (List Line)) (reports others : List PhaseReport)
@@ -24,14 +25,14 @@ pub fn phases_come_to_one_report()
     reports_are_determined();
 }
 
-/// The reports of a play are legal: operations are merges of the actors' lines, each table's journal
+/// The reports of a play or a run are legal: operations are merges of the actors' lines, each table's journal
 /// has every protocol's imports once, in order, each channel's log follows its table's history,
 /// each reply is its table's, and the state is that of the operations.
 pub fn reports_are_legal()
     ensures { (command : Option Command) (held : Held) (setup : Setup)
         (actors : List (List ℕ)) (phases : List (List Line)) (reports : List PhaseReport)
         → IsPossible command held (Played setup actors phases)
-        → ArePlayed setup actors phases reports
+        → AreReportsOf command setup actors phases reports
         → IsLegalPlay setup actors (map (phase_of setup.queries) phases) reports }
 {
     accepted_scripts_are_setups();

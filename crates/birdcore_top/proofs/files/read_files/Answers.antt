@@ -11,24 +11,24 @@ use Rattle.birdcore_top.proofs.files.read_files.Goals as goal
 pub returns-in_err-system-clause-stopped : goal.returns-in_err-system-clause-stopped
 returns-in_err-system-clause-stopped g c =
     stops_as _ c.from_residual.result c.in_err-system.field-0.0 c.from_residual.ensures.1
-    (conf_stopped c.args.conf.now c.args.script.now (g.F.Shelf.held c.args.shelf.now) c.in_err-system.field-0.0 c.in_err-system.ensures.stopped)
+    (conf_stopped c.args.conf.now c.args.script.now c.args.schedule (g.F.Shelf.held c.args.shelf.now) c.in_err-system.field-0.0 c.in_err-system.ensures.stopped)
 
 pub returns-in_err-script-clause-stopped : goal.returns-in_err-script-clause-stopped
 returns-in_err-script-clause-stopped g c =
     stops_as _ c.from_residual-in_err-script.result c.in_err-script.field-0.0 c.from_residual-in_err-script.ensures.1
-    (script_stopped c.args.conf.now c.args.script.now (g.F.Shelf.held c.args.shelf.now) (system_of c.in_ok-system.system) (c.in_ok-system.ensures.configured.0, c.in_ok-system.ensures.configured.1.1)
+    (script_stopped c.args.conf.now c.args.script.now c.args.schedule (g.F.Shelf.held c.args.shelf.now) (system_of c.in_ok-system.system) (c.in_ok-system.ensures.configured.0, c.in_ok-system.ensures.configured.1.1)
     c.in_ok-system.ensures.config c.in_err-script.field-0.0 (rw c.in_ok-system.ensures.held at c.in_err-script.ensures.stopped))
 
 pub returns-in_err-script-clause-in_turn : goal.returns-in_err-script-clause-in_turn
 returns-in_err-script-clause-in_turn g c = λ is.
     let failed = err_is c.from_residual-in_err-script.result c.in_err-script.field-0.0 _ c.from_residual-in_err-script.ensures.1 is in
-    in_turn c.args.conf.now c.args.script.now (g.F.Shelf.held c.args.shelf.now) (system_of c.in_ok-system.system) (c.in_ok-system.ensures.configured.0, c.in_ok-system.ensures.configured.1.1)
+    in_turn c.args.conf.now c.args.script.now c.args.schedule (g.F.Shelf.held c.args.shelf.now) (system_of c.in_ok-system.system) (c.in_ok-system.ensures.configured.0, c.in_ok-system.ensures.configured.1.1)
     c.in_ok-system.ensures.config (g.F.Shelf.missed c.args.shelf.now) (g.F.Shelf.missed c.read_conf.new.shelf) (g.F.Shelf.missed c.read_lines.new.shelf) c.in_ok-system.ensures.none_fell
     (c.in_err-script.ensures.by_name (ap (λ (s : Status). Err s) failed))
 
 pub returns-clause-files : goal.returns-clause-files
 returns-clause-files g c = λ cells.
-    over c.args.conf.now c.args.script.now (g.F.Shelf.held c.args.shelf.now) (system_of c.in_ok-system.system) (c.in_ok-system.ensures.configured.0, c.in_ok-system.ensures.configured.1.1)
+    over c.args.conf.now c.args.script.now c.args.schedule (g.F.Shelf.held c.args.shelf.now) (system_of c.in_ok-system.system) (c.in_ok-system.ensures.configured.0, c.in_ok-system.ensures.configured.1.1)
     c.in_ok-system.ensures.config cells
     (Played (setup_read c.in_ok-system.system c.in_ok-script.script cells) c.in_ok-script.script.actors.items (phases_read c.in_ok-script.script))
     ((rw c.in_ok-system.ensures.held at c.in_ok-script.ensures.script) cells)
@@ -38,19 +38,19 @@ returns-clause-playable g c = (c.in_ok-system.ensures.configured.0, c.in_ok-syst
 
 pub returns-clause-setup : goal.returns-clause-setup
 returns-clause-setup g c = λ cells.
-    c.accepted_scripts_are_setups.ensures c.in_ok-system.ensures.configured.0 c.in_ok-script.ensures.answers.0 (system_of c.in_ok-system.system) (phases_read c.in_ok-script.script)
+    c.accepted_scripts_are_setups.ensures c.in_ok-system.ensures.configured.0 c.in_ok-script.ensures.answers.0 (system_of c.in_ok-system.system) c.args.schedule (phases_read c.in_ok-script.script)
     c.in_ok-script.script.actors.items c.in_ok-script.script.queries.items (map (filter_says c.in_ok-system.system) c.in_ok-script.script.filters.items) cells
     c.in_ok-system.ensures.configured.1.1 c.in_ok-script.ensures.answers.1
 
 pub returns-clause-asked : goal.returns-clause-asked
 returns-clause-asked g c =
-    all_ask (named_of (system_of c.in_ok-system.system)) c.in_ok-script.script.actors.items (length c.in_ok-script.script.queries.items) (phases_read c.in_ok-script.script)
-    (c.accepted_scripts_name_what_is.ensures.lines (system_of c.in_ok-system.system) c.in_ok-script.ensures.answers.0 (phases_read c.in_ok-script.script) c.in_ok-script.script.actors.items
+    all_ask (named_of (system_of c.in_ok-system.system) c.args.schedule) c.in_ok-script.script.actors.items (length c.in_ok-script.script.queries.items) (phases_read c.in_ok-script.script)
+    (c.accepted_scripts_name_what_is.ensures.lines (system_of c.in_ok-system.system) c.args.schedule c.in_ok-script.ensures.answers.0 (phases_read c.in_ok-script.script) c.in_ok-script.script.actors.items
     c.in_ok-script.script.queries.items (map (filter_says c.in_ok-system.system) c.in_ok-script.script.filters.items) c.in_ok-script.ensures.answers.1)
 
 pub returns-clause-fits : goal.returns-clause-fits
 returns-clause-fits g c = λ cells.
-    c.accepted_scripts_fit_their_tables.ensures c.in_ok-system.ensures.configured.0 c.in_ok-script.ensures.answers.0 (system_of c.in_ok-system.system) (phases_read c.in_ok-script.script)
+    c.accepted_scripts_fit_their_tables.ensures c.in_ok-system.ensures.configured.0 c.in_ok-script.ensures.answers.0 (system_of c.in_ok-system.system) c.args.schedule (phases_read c.in_ok-script.script)
     c.in_ok-script.script.actors.items c.in_ok-script.script.queries.items (map (filter_says c.in_ok-system.system) c.in_ok-script.script.filters.items) cells
     c.in_ok-system.ensures.configured.1.1 c.in_ok-script.ensures.answers.1
 

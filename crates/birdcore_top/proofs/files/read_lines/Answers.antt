@@ -26,7 +26,7 @@ pub returns-in_err-script-clause-stopped : goal.returns-in_err-script-clause-sto
 returns-in_err-script-clause-stopped g c =
     let p = err_from_is_err_and c.from_residual-in_err-script.result c.from_residual-in_err-script.ensures.1 in
     rw (p.1, p.2)
-    (script_stops (system_of c.args.system.now) c.args.name.now _ c.in_ok-bytes.bytes.items c.in_ok-bytes.ensures.whole c.in_err-script.field-0.0 (rw c.deref.ensures.value at c.in_err-script.ensures.told))
+    (script_stops (system_of c.args.system.now) c.args.schedule c.args.name.now _ c.in_ok-bytes.bytes.items c.in_ok-bytes.ensures.whole c.in_err-script.field-0.0 (rw c.deref.ensures.value at c.in_err-script.ensures.told))
 
 pub returns-clause-before : goal.returns-clause-before
 returns-clause-before g c = c.in_ok-script.ensures.before

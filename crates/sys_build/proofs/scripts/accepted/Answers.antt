@@ -11,8 +11,8 @@ returns-in_err-filters-clause-told c =
     let system = c.args.system.now in
     let script = c.args.script in
     let fault = c.in_err-filters.field-0.0 in
-    handed_on c.from_residual.result fault (λ read. Answers (system_of system) c.args.text.now (Accepted (map (λ phase. phase.items) read.phases.items) read.actors.items read.queries.items (map (filter_says system) read.filters.items))) (Tells (system_of system) c.args.text.now) c.from_residual.ensures.1
-    (told_first (system_of system) c.args.text.now (lines.Accepted (map (λ phase. phase.items) script.phases.items) script.actors.items script.queries.items script.conditions.items) fault c.requires.lines
+    handed_on c.from_residual.result fault (λ read. Answers (system_of system) c.args.schedule c.args.text.now (Accepted (map (λ phase. phase.items) read.phases.items) read.actors.items read.queries.items (map (filter_says system) read.filters.items))) (Tells (system_of system) c.args.schedule c.args.text.now) c.from_residual.ensures.1
+    (told_first (system_of system) c.args.schedule c.args.text.now (lines.Accepted (map (λ phase. phase.items) script.phases.items) script.actors.items script.queries.items script.conditions.items) fault c.requires.lines
     (subst (λ (l : List Condition). TellsFirst (system_of system) l fault) c.deref.ensures.value c.in_err-filters.ensures.told))
 
 pub returns-in_err-filters-clause-before : goal.returns-in_err-filters-clause-before
