@@ -1,4 +1,4 @@
-//! The program: it plays a script over a configuration, and reports what came about.
+//! The program: it plays or runs a script over a configuration, and reports what came about.
 //!
 //! All that it does is one call, `top`, over the system's files and standard output. Here
 //! the status that comes back becomes a line on standard error and an exit status.

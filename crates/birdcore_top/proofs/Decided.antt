@@ -118,7 +118,7 @@ calm law (Some (Run conf script cells form)) held before now o required none mis
     not_in_turn law false conf script cells form held before now o required
     (subst (λ (names : List (List ℕ)). All (λ name. Rose (before name) (now name) → ⊥) names) (as_of_a_play conf script cells form o) none) missed
 calm law (Some (Check conf None)) held before now o required none missed = alone_not_in_turn conf held before now o required none missed
-calm law (Some (Check conf (Some script))) held before now o required none missed = check_not_in_turn law true conf script held before now o required none missed
+calm law (Some (Check conf (Some script))) held before now o required none missed = check_not_in_turn law conf script held before now o required none missed
 
 -- the answer is the one that is required, or want of memory
 pub exact : (law : HasOneOutcome) (command : Option Command) (held : Held) (before now : List ℕ → ℕ) (old new : ℕ) (P : List (List Line) → List PhaseReport → Type 0) (said : Type 0) (status : Status) → HasCause (IsPossible command held) status

@@ -101,15 +101,6 @@ fn bytes_ahead<'a>(text: &'a [u8], spot: Spot) -> Option<&'a [u8]>
     }
 }
 
-fn begins_with_else_sign(words: &[Word]) -> bool
-    ensures { result ≡ begins (symbol sym.ElseColon) words.now }
-{
-    match words.first() {
-        Some(word) => is_symbol(word, Symbol::ElseColon),
-        None => false,
-    }
-}
-
 // The same, unless the words begin with the sign of `else` and a colon.
 fn word_bytes<'a>(text: &'a [u8], spot: Spot, rest: &[Word]) -> Option<&'a [u8]>
     requires { IsSpot text.now spot }
@@ -117,10 +108,15 @@ fn word_bytes<'a>(text: &'a [u8], spot: Spot, rest: &[Word]) -> Option<&'a [u8]>
         → MatchOption result (word_bytes rest.now text.now tokens ≡ None)
         (λ word. word_bytes rest.now text.now tokens ≡ Some word.now) }
 {
-    if begins_with_else_sign(rest) {
-        None
-    } else {
-        bytes_ahead(text, spot)
+    match rest.first() {
+        Some(word) => {
+            if is_symbol(word, Symbol::ElseColon) {
+                None
+            } else {
+                bytes_ahead(text, spot)
+            }
+        }
+        None => bytes_ahead(text, spot),
     }
 }
 

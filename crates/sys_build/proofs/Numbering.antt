@@ -1,5 +1,5 @@
 -- The names of scripts and those of setups count alike.
-use Rattle.std.proofs.Common.{◌≡◌, ◌∙◌, sym, ap, refl, ℕ, ◌+◌, List, [], ◌∷◌, ◌++◌, map}
+use Rattle.std.proofs.Common.{◌≡◌, ◌∙◌, sym, ap, refl, ℕ, Bool, ◌+◌, List, [], ◌∷◌, ◌++◌, map}
 use Rattle.std.proofs.lemmas.List.{map-append}
 use Rattle.core_setup.specs.Channels.{Channel, channels, channels_from, channels_in}
 use Rattle.core_setup.specs.Setup as setup

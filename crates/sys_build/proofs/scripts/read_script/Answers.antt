@@ -1,8 +1,11 @@
-use Rattle.std.proofs.Common.{sym, subst, ◌+◌, ◌-◌, ◌<◌, ◌^◌, length}
+use Rattle.std.proofs.Common.{arith, sym, subst, ◌+◌, ◌-◌, ◌<◌, ◌^◌, length}
 use Rattle.script_lines.specs.declared.named.Named.{Named}
 use Rattle.conf_system.specs.Seen.{system_of}
 use Rattle.sys_build.proofs.Few.{have_room}
 use Rattle.sys_build.proofs.scripts.read_script.Goals as goal
+
+pub named-requires-clause-few : goal.named-requires-clause-few
+named-requires-clause-few c = c.accepted_configurations_are_few.ensures c.requires.0 (system_of c.args.system.now) c.requires.1 (omega (arith, c.requires.2)) c.args.schedule
 
 pub named-requires-clause-tables : goal.named-requires-clause-tables
 named-requires-clause-tables c = c.accepted_configurations_have_their_tables.ensures c.requires.0 (system_of c.args.system.now) c.requires.1 c.args.schedule
