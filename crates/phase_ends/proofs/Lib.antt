@@ -1,0 +1,4 @@
+pub mod Chosen
+pub mod Leaving
+pub mod Sending
+pub mod Settling
