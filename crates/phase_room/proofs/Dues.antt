@@ -29,12 +29,13 @@ use Rattle.phase_legal.specs.Stamps.{AreStamps, item_in, items_in, notices_from,
 use Rattle.phase_legal.specs.Turns.{place_of, told, turns_told}
 use Rattle.phase_legal.proofs.Stamping.{opens_on, stamps_open, stretch_opens}
 use Rattle.import_lock.specs.Calls.{IsDue}
-use Rattle.import_lock.specs.Kept.{IsFree, IsImports, IsStamped, IsUnlessLost, items_of_stamp}
+use Rattle.import_lock.specs.Kept.{IsFree, IsImports, IsStamped, IsUnlessLost, items_of_stamp, left}
 use Rattle.import_lock.specs.Terms.{ImportTerms, ops_told, past_ops, rules_in}
 use Rattle.import_lock.specs.declared.state.ImportState.{ImportState}
 use Rattle.import_lock.specs.declared.state.OpFault.{OpFault}
 use Rattle.import_lock.specs.declared.state.OpRecord.{OpRecord}
 use Rattle.import_lock.specs.declared.state.OpFault.TheVariants.{Memory}
+use Rattle.import_lock.proofs.Marking.{nothing_due}
 use Rattle.export_lock.specs.Kept.{Goes, IsExports, MayMark}
 use Rattle.export_lock.specs.Terms.{ExportTerms}
 use Rattle.export_lock.specs.declared.state.ExportState.{ExportState}
@@ -132,7 +133,17 @@ if_marks : {A B : Type 0} (f : A → B) (x : Option A) (m : B) (P : Type 0) → 
 if_marks f None m P e p = none_some e
 if_marks f (Some a) m P e p = p
 
+none_of : {A B : Type 0} (f : A → B) (x : Option A) → option_map f x ≡ None → x ≡ None
+none_of f None e = refl
+none_of f (Some a) e = none_some (sym e)
+
 module _ {J : Type 0} (verdict : J → Net → Route → Verdict) where
+  -- where there is no channel, nothing is to be marked
+  pub unmarked_keeps : (mine : ImportTerms) (its : List (ℕ × Change)) (last : Op) (before : List Op) (mark : Mark) (a : ImportState J) → IsDue verdict mine its last before mark a → mine.marks ≡ None → left a ≡ []
+      → (key : ImportTerms) (made : List (ℕ × Change)) (op : Op) (ops : List Op) → IsDue verdict key made op ops mark a → IsImports verdict key a
+  unmarked_keeps mine its last before mark a is none rest key made op ops due =
+      unless_lost a.fault _ (made, nothing_due verdict key made op ops mark a due rest (none_of journal a.stamp (is.importing.marks ∙ none)))
+
   -- of any stamp that the value has
   pub may_any : (key : ImportTerms) (channel : ExportTerms) (made : List (ℕ × Change)) (op : Op) (earlier : List Op) (mark : Mark) (a : ImportState J) (b : ExportState J) (table : TableId × Terms TableOpening) → ((setup : Setup) → IsSetup setup → IsRules (rules_of setup))
       → IsDue verdict key made op earlier mark a → IsExports verdict channel b → AreTogether key channel → length a.ops.items < 2 ^ 63 → key.port ≡ table → IfSome a.stamp (λ s. MayMark verdict false table (signal_of mark) s b)

@@ -3,3 +3,8 @@ pub mod Dues
 pub mod Standing
 pub mod First
 pub mod Only
+pub mod Rooms
+pub mod Beginning
+pub mod Ports
+pub mod Acting
+pub mod Dealing

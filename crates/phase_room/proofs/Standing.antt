@@ -1,6 +1,6 @@
 -- What stands as a phase begins gives all that locks are made of.
 use Rattle.std.proofs.Common.{◌≡◌, ℕ, zero, suc, ◌+◌, ◌<◌, arith, Bool, true, false, List, [], ◌∷◌, length, map, reverse, Option, Some, refl, sym, ap, subst, ◌∙◌}
-use Rattle.std.specs.Prelude.{◌==◌, Contains, if◌then◌else◌, slice_get, slice_index_or}
+use Rattle.std.specs.Prelude.{◌==◌, Contains, IfSome, if◌then◌else◌, slice_get, slice_index_or}
 use Rattle.std.specs.List.{AllByRecursion}
 use Rattle.std.proofs.lemmas.Bool.{eqb-true}
 use Rattle.atomic_table.specs.Seated.{TableId}
@@ -13,7 +13,6 @@ use Rattle.export_core.specs.Standing.{is_open}
 use Rattle.export_core.specs.States.{State}
 use Rattle.import_core.specs.Importers.{Importing}
 use Rattle.import_core.specs.declared.import_spec.Fixed.{Fixed}
-use Rattle.jour_rule.specs.Moves.{position_of}
 use Rattle.jour_rule.specs.declared.views.Terms.{Terms}
 use Rattle.jour_rule.specs.declared.views.View.{View as Seat}
 use Rattle.jour.specs.Seats.{front, journal, number_of, own}
@@ -25,8 +24,9 @@ use Rattle.core_setup.proofs.Numbered.{itself_is, none_some, protocol_is, some_s
 use Rattle.phase_legal.specs.Changes.{IsAlone}
 use Rattle.table_shared.specs.Opening.{TableOpening, sources_of}
 use Rattle.table_shared.specs.Records.{at_first}
+use Rattle.import_lock.specs.Begun.{IsUnused}
 use Rattle.import_lock.specs.Terms.{AreTerms, PhaseTerms}
-use Rattle.phase_room.specs.Journals.{marks_terms, turns_terms}
+use Rattle.phase_room.specs.Journals.{turns_terms}
 use Rattle.phase_room.specs.Locks.{CanExport, CanImport, export_terms, import_terms}
 use Rattle.phase_room.specs.Rooms.{TableTerms, homes, ports_of, table_terms}
 use Rattle.phase_room.specs.Stands.{AreChannelSeats, AreSeats, StandsChannel, StandsSource, StandsTable}
@@ -175,27 +175,16 @@ module _ {J : Type 0} (verdict : J → Net → Route → Verdict) (phase : Phase
     up = s.up;
   }
 
--- ---- the seats that are given
+-- ---- the seats that a protocol is given
 
 module _ (phase : PhaseTerms) (source : Source) (stood : TableTerms) (here : TableId × Terms TableOpening) (begins : here.1 ≡ table_terms phase.setup source.table stood) where
-  pub source_seats : (number hands : ℕ) (port : TableId × Seat TableOpening) (turns stamp : TableId × Seat ℕ) → journal port ≡ here → number_of port.1.role ≡ number → own port.1 ≡ [] → turns.1.seen.terms ≡ turns_terms hands → hands ≡ phase.starter + 1 → front turns.1 ≡ []
-      → number_of stamp.1.role ≡ 0 → own stamp.1 ≡ [] → AreSeats phase number source stood here.0 port turns (Some stamp)
-  source_seats number hands port turns stamp at is unmade terms many unturned first unmarked = record {
+  pub source_seats : (number hands : ℕ) (port : TableId × Seat TableOpening) (turns : TableId × Seat ℕ) (stamp : Option (TableId × Seat ℕ)) → journal port ≡ here → number_of port.1.role ≡ number → own port.1 ≡ [] → turns.1.seen.terms ≡ turns_terms hands → hands ≡ phase.starter + 1 → front turns.1 ≡ []
+      → IfSome stamp IsUnused → AreSeats phase number source stood here.0 port turns stamp
+  source_seats number hands port turns stamp at is unmade terms many unturned unused = record {
     port = at ∙ ap (λ z. (here.0, z)) begins;
     port_number = is;
     unmade = unmade;
     turns = terms ∙ ap turns_terms many;
     unturned = unturned;
-    unused = record { number = first; unmarked = unmarked };
-  }
-
-  pub channel_seats : (up is_up : Bool) (from : ℕ) (cursor : (TableId × Seat TableOpening) × Bool) (marks : TableId × Seat ℕ) → up ≡ is_up → journal cursor.0 ≡ here → front cursor.0.1 ≡ [] → cursor.1 ≡ up → (up ≡ true → position_of cursor.0.1.role ≡ from) → from ≡ length stood.before
-      → marks.1.seen.terms ≡ marks_terms → front marks.1 ≡ [] → AreChannelSeats phase source stood here.0 is_up cursor marks
-  channel_seats up is_up from cursor marks same at unread mode position start terms unmarked = record {
-    cursor = at ∙ ap (λ z. (here.0, z)) begins;
-    unread = unread;
-    mode = mode ∙ same;
-    position = λ yes. position (same ∙ yes) ∙ start;
-    marks = terms;
-    unmarked = unmarked;
+    unused = unused;
   }

@@ -4,3 +4,7 @@ pub mod Together
 pub mod Rooms
 pub mod Stands
 pub mod First
+pub mod Sessions
+pub mod Parts
+pub mod Dealt
+pub mod Opened

@@ -7,7 +7,7 @@
 -- From: own.
 -- Example: of two protocols of which the second imports to the second table, the first table has
 -- the ports [0] and [], and the second one [] and [1].
-use Rattle.std.specs.Prelude.{◌==◌, ◌+◌, ℕ, List, [], ◌∷◌, length, map, if◌then◌else◌}
+use Rattle.std.specs.Prelude.{◌≡◌, ◌==◌, ◌+◌, ℕ, List, [], ◌∷◌, length, map, if◌then◌else◌}
 use Rattle.attrs.specs.declared.journal.JEntry.{JEntry}
 use Rattle.attrs.specs.declared.route.Row.{Row}
 use Rattle.bits_ip.specs.declared.address.Family.{Family}
@@ -46,3 +46,10 @@ table_terms setup number table = record {
     ports = ports_of number 0 (homes setup);
   };
 }
+
+-- How many cells and cursors the journal of each table has, and by protocol the table that it
+-- imports to, are a setup's.
+pub record AreCounts (setup : Setup) (cells cursors : ℕ) (imports : List ℕ) : Type 0 where
+  pub cells_are : cells ≡ setup.cells
+  pub cursors_are : cursors ≡ length (channels setup)
+  pub imports_are : imports ≡ homes setup

@@ -1,16 +1,18 @@
 //! Laws of what a phase begins with.
-ghost use Rattle.std.specs.Prelude.{◌≡◌, ℕ, Bool, List, Option, Some, reverse};
+ghost use Rattle.std.specs.Prelude.{◌≡◌, ℕ, Bool, List, [], Option, Some, reverse, slice_get};
 ghost use Rattle.atomic_table.specs.Seated.{TableId};
 ghost use Rattle.bits_ip.specs.declared.address.Family.{Family};
 ghost use Rattle.export_core.specs.Standing.{is_open};
 ghost use Rattle.export_core.specs.States.{State};
 ghost use Rattle.import_core.specs.Importers.{Importing};
 ghost use Rattle.jour_rule.specs.declared.views.View.{View as Seat};
-ghost use Rattle.jour.specs.Seats.{journal};
+ghost use Rattle.jour_rule.specs.declared.views.Terms.{Terms};
+ghost use Rattle.jour.specs.Seats.{front, journal};
 ghost use Rattle.core_machine.specs.Lines.{Line};
 ghost use Rattle.core_setup.specs.Protocols.{protocol_at};
 ghost use Rattle.core_setup.specs.Setup.{Exports, IsSetup, IsSource, Protocol, Setup, Source, family_at};
 ghost use Rattle.table_shared.specs.Opening.{TableOpening};
+ghost use Rattle.phase_legal.specs.Shown.{AreBeside, HandView, IsActing, IsHandOf, PassView, Room as Journals};
 ghost use Rattle.import_lock.specs.Terms.{PhaseTerms};
 ghost use Rattle.phase_room.specs.First.{first_phase, new_exporter, new_importer, nothing_in, smallest, two_neighbours};
 ghost use Rattle.phase_room.specs.Locks.{CanExport, CanImport, export_terms, import_terms};
@@ -72,4 +74,15 @@ pub fn first_phases_stand<J: Judge>()
         (nothing_in family) (new_exporter exports.spec judge) }
     ensures worked { (judge : J) → IsSetup (smallest (J.verdict judge))
         × IsSetup (two_neighbours (J.verdict judge)) }
+{}
+
+/// An actor that has its hands and its passes of a room, which have seen nothing of the phase, has
+/// done none of its lines.
+pub fn actors_can_begin()
+    ensures { (room : Journals) (actor : ℕ) (hands : List HandView) (passes : List PassView)
+        → AreBeside (IsHandOf room actor) room.turns hands
+        → AreBeside (λ (table : TableId × Terms TableOpening) (pass : PassView).
+        journal pass ≡ table) room.tables passes
+        → ((i : ℕ) (hand : HandView) → slice_get hands i ≡ Some hand → front hand.1 ≡ [])
+        → IsActing room actor [] hands passes }
 {}

@@ -1,17 +1,29 @@
 //! What a phase with threads is played over: tables, and the locks of protocols and channels.
 //!
 //! `lists` makes the journals of turns and of marks, `locks` the locks as a phase begins, from what
-//! stands then (`laws`); `session` has a protocol with its channel, and opens their locks at the end;
-//! `turns` does an operation under both locks.
+//! stands then (`laws`); `session` has a protocol with its channel, if it has one, and opens their
+//! locks at the end; `turns` does an operation under its locks; `room` has tables and sessions by
+//! their numbers.
 #![tactic(auto)]
 
+mod begin;
+mod deals;
 pub mod laws;
 mod lists;
 mod locks;
+mod opened;
+mod parts;
+mod room;
 mod session;
+mod tables;
 mod turns;
 
+pub use begin::{begin_neighbour, begin_static};
+pub use deals::push_each;
 pub use lists::{open_marks, open_turns};
 pub use locks::{ExportLock, ImportLock, lock_export, lock_import};
+pub use opened::Opened;
+pub use parts::{ChannelPart, ProtocolPart};
+pub use room::Room;
 pub use session::Session;
-pub use turns::operate;
+pub use tables::begin_table;

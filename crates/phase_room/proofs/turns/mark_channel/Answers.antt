@@ -1,7 +1,7 @@
 use Rattle.std.proofs.Common.{◌∙◌, arith}
 use Rattle.export_lock.specs.Locks.{terms_of}
 use Rattle.phase_room.proofs.Dues.{goes_on, marked_keeps, may_any}
-use Rattle.phase_room.proofs.turns.mark.Goals as goal
+use Rattle.phase_room.proofs.turns.mark_channel.Goals as goal
 
 pub give_mark-done-requires-clause-held : goal.give_mark-done-requires-clause-held
 give_mark-done-requires-clause-held g c = record { key = c.requires.due.0; made = c.requires.due.1; importing = c.requires.due.4.importing }

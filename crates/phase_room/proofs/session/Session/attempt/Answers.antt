@@ -1,4 +1,4 @@
-use Rattle.phase_room.proofs.turns.attempt.Goals as goal
+use Rattle.phase_room.proofs.session.Session.attempt.Goals as goal
 
 pub apply-requires-clause-free : goal.apply-requires-clause-free
 apply-requires-clause-free g c = c.requires.free
