@@ -1,5 +1,5 @@
 -- What is judged of conditions, one after another, and of a text by its lines and its conditions.
-use Rattle.std.proofs.Common.{◌≡◌, ◌∙◌, sym, ap, subst, ℕ, Bool, zero, suc, ◌+◌, ◌<◌, ◌≤◌, All, List, [], ◌∷◌, ◌++◌, length, map, take, drop, get_or, Result, Ok, Err, arith, inl, inr}
+use Rattle.std.proofs.Common.{◌≡◌, ◌∙◌, sym, ap, subst, ℕ, Bool, zero, suc, ◌+◌, ◌^◌, ◌<◌, ◌≤◌, All, List, [], ◌∷◌, ◌++◌, length, map, take, drop, get_or, Result, Ok, Err, arith, inl, inr}
 use Rattle.std.specs.Prelude.{IfOk, IsErrAnd, MatchResult}
 use Rattle.std.proofs.lemmas.List.{map-append, take_all, take_more}
 use Rattle.std.proofs.lemmas.List.Elements.{All-push}
@@ -81,6 +81,15 @@ pub one_before : {T : Type 0} (P : T → Type 0) (old new : List T) (x : T) → 
 one_before P old new x pushed all is = subst (λ (l : List _). All P l) (sym pushed) (All-push P old x all is)
 
 -- ---- texts
+
+-- conditions no longer than a text that can be read can be read
+pub are_short : (text : List ℕ) (found conditions : List Condition) → length text < 2 ^ 32 → found ≡ conditions → All (λ (c : Condition). length c.text ≤ length text) conditions → All (λ (c : Condition). length c.text < 2 ^ 32) found
+are_short text found conditions short same all =
+    let within = subst (λ (l : List Condition). All (λ (c : Condition). length c.text ≤ length text) l) (sym same) all in
+    λ k d below. omega (arith, short, within k d below)
+
+pub is_short : (conditions : List Condition) (i : ℕ) (c : Condition) → i < length conditions → c ≡ get_or conditions i c → All (λ (d : Condition). length d.text < 2 ^ 32) conditions → length c.text < 2 ^ 32
+is_short conditions i c below is all = subst (λ (d : Condition). length d.text < 2 ^ 32) (sym is) (all i c below)
 
 pub told_first : (system : System) (schedule : Bool) (text : List ℕ) (answer : lines.Answer) (fault : ReadFault) → lines.Answers (named_of system schedule) text answer → TellsFirst system (conditions_in answer) fault → Tells system schedule text fault
 told_first system schedule text answer (faults.Refused line kind) is told = inr (told.0, record { answer = answer; lines_are = is; first = told.1 })

@@ -151,7 +151,7 @@ fn judged(
     system: &System,
     conditions: &[Condition],
 ) -> Result<Vec<TFilter>, ReadFault>
-    requires short { All (λ (condition : Condition). length condition.text < 2 ^ 32) conditions.now }
+    requires { All (λ (condition : Condition). length condition.text < 2 ^ 32) conditions.now }
     ensures told { MatchResult result
         (λ filters. AreAsked (system_of system.now) conditions.now
         (map (filter_says system.now) filters.items))
@@ -168,7 +168,7 @@ fn judged(
 
 /// What a condition asks for, where it isn't refused.
 fn judge(alloc: Global, system: &System, condition: &Condition) -> Result<TFilter, ReadFault>
-    requires short { length condition.now.text < 2 ^ 32 }
+    requires { length condition.now.text < 2 ^ 32 }
     ensures told { MatchResult result
         (λ filter. IsCondition (system_of system.now) condition.now.text
         (filter_says system.now filter))

@@ -2,7 +2,7 @@ use Rattle.std.proofs.Common.{map}
 use Rattle.conf_system.specs.Coded.{CanRunOver}
 use Rattle.conf_system.specs.Seen.{filter_says, system_of}
 use Rattle.sys_build.specs.Scripts.{AreAsked, TellsFirst}
-use Rattle.sys_build.proofs.Judged.{first_refused, handed_on, judged_all, judged_turn, none_asked, none_before, none_handed, one_before}
+use Rattle.sys_build.proofs.Judged.{first_refused, handed_on, is_short, judged_all, judged_turn, none_asked, none_before, none_handed, one_before}
 use Rattle.sys_build.proofs.scripts.judged.Goals as goal
 
 pub loop-condition-init : goal.loop-condition-init
@@ -10,6 +10,9 @@ loop-condition-init c = record {
   asked = none_asked (system_of c.args.system.now) (filter_says c.args.system.now) c.new-filters.result.items c.new-filters.ensures.items;
   before = λ ordered. none_before (CanRunOver c.args.system.now) c.new-filters.result.items c.new-filters.ensures.items;
 }
+
+pub judge-requires : goal.judge-requires
+judge-requires c = is_short c.args.conditions.now c.loop-condition.condition-index c.condition-item.result c.loop-condition-test.true c.condition-item.is c.requires
 
 pub loop-condition-preserved : goal.loop-condition-preserved
 loop-condition-preserved c =

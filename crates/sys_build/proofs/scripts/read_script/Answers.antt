@@ -14,3 +14,9 @@ pub read_script-requires-clause-short : goal.read_script-requires-clause-short
 read_script-requires-clause-short c =
     subst (λ (n : Named). length n.filters + length c.args.text.now < 2 ^ 32 - 1) (sym c.in-Ok.ensures)
     (have_room c.configurations_have_few_tables_and_filters.ensures.filters c.requires.0 (length c.args.text.now) (system_of c.args.system.now) c.args.schedule c.requires.1 c.requires.2)
+
+pub accepted-requires-clause-short : goal.accepted-requires-clause-short
+accepted-requires-clause-short c = omega (arith, c.requires.2)
+
+pub refused-requires-clause-short : goal.refused-requires-clause-short
+refused-requires-clause-short c = omega (arith, c.requires.2)

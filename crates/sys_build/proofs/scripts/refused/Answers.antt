@@ -1,9 +1,15 @@
-use Rattle.std.proofs.Common.{map}
+use Rattle.std.proofs.Common.{map, refl}
 use Rattle.script_lines.specs.Script as lines
 use Rattle.conf_system.specs.Seen.{filter_says, system_of}
+use Rattle.sys_build.specs.Names.{named_of}
 use Rattle.sys_build.specs.Scripts.{Accepted, Answers, Tells}
-use Rattle.sys_build.proofs.Judged.{handed_on, none_handed, told_first, told_words}
+use Rattle.sys_build.proofs.Judged.{are_short, handed_on, none_handed, told_first, told_words}
 use Rattle.sys_build.proofs.scripts.refused.Goals as goal
+
+pub judged-requires : goal.judged-requires
+judged-requires c =
+    are_short c.args.text.now c.args.conditions.now c.args.conditions.now c.requires.short refl
+    (c.conditions_are_short.ensures.refused (named_of (system_of c.args.system.now) c.args.schedule) c.args.text.now c.args.line c.args.kind c.args.conditions.now c.requires.lines)
 
 pub returns-in_err-_judged-clause-told : goal.returns-in_err-_judged-clause-told
 returns-in_err-_judged-clause-told c =
