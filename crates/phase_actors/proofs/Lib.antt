@@ -1,0 +1,8 @@
+pub mod Places
+pub mod Growing
+pub mod Replying
+pub mod Doing
+pub mod Lines
+pub mod Rooms
+pub mod Walking
+pub mod Fitting

@@ -1,0 +1,4 @@
+pub mod Texts
+pub mod Acting
+pub mod Script
+pub mod Steps
