@@ -2,9 +2,7 @@
 use Rattle.std.proofs.Common.{◌≡◌, ℕ, ◌≤◌, ◌<◌, ◌-◌, ◌^◌, Bool, true, false, List, length, Option, Some, None, refl, sym, subst, arith, inl, inr}
 use Rattle.std.specs.Prelude.{◌⊎◌, IfSome, IsSomeAnd}
 use Rattle.std.proofs.lemmas.Bool.{cases_lt}
-use Rattle.core_setup.specs.Setup.{Setup}
 use Rattle.outside_io.specs.Whole.{limit, IsLong}
-use Rattle.script_lines.specs.declared.script.Line.{Line}
 use Rattle.sys_build.specs.Scripts as script_answers
 use Rattle.sys_build.specs.Scripts.{Answer, Answers}
 use Rattle.sys_build.specs.Setups.{IsPlayable, setup_of}
@@ -40,7 +38,7 @@ module _ (says : (text : List ℕ) → length text ≤ limit → SaysSomething t
   script_outcome : (system : System) (schedule : Bool) (cells : ℕ) (name text : List ℕ) → (o : Outcome) × ScriptGives IsSomeAnd system schedule cells name (Some text) o
   script_outcome system schedule cells name text = elim (within_or text) [
     | inl long ↦ (OverLimit name, (refl, long))
-    | inr within ↦ let found = each system text (omega (arith, within)) in answered system schedule cells name text within found.0 found.1
+    | inr within ↦ let found = each system schedule text (omega (arith, within)) in answered system schedule cells name text within found.0 found.1
   ]
 
   -- what files give, of which this is told
