@@ -1,5 +1,5 @@
 -- Lists that get one item more, one after another.
-use Rattle.std.proofs.Common.{◌≡◌, ℕ, zero, suc, ◌<◌, ◌≤◌, arith, inl, inr, List, [], ◌∷◌, ◌++◌, length, set, Some, None, refl, sym, ap, subst, ◌∙◌, append-nil, length-append}
+use Rattle.std.proofs.Common.{◌≡◌, ℕ, zero, suc, ◌+◌, ◌<◌, ◌≤◌, arith, inl, inr, List, [], ◌∷◌, ◌++◌, length, set, Some, None, refl, sym, ap, subst, ◌∙◌, append-nil, length-append}
 use Rattle.std.specs.Prelude.{slice_get}
 use Rattle.std.specs.declared.alloc.Global.{Global}
 use Rattle.std.specs.declared.vec.Vec.{Vec}
@@ -29,6 +29,16 @@ last_or_before P [] x m zero were last e = subst (P zero) (some_same e) last
 last_or_before P [] x m (suc k) were last e = none_some e
 last_or_before P (y ∷ xs) x m zero were last e = were zero m e
 last_or_before P (y ∷ xs) x m (suc k) were last e = last_or_before (λ i z. P (suc i) z) xs x m k (λ i z at. were (suc i) z at) last e
+
+-- all items of a list with one more
+pub all_more : {A : Type 0} (Q : A → Type 0) (xs more : List A) (x : A) → ((i : ℕ) (y : A) → slice_get xs i ≡ Some y → Q y) → Q x → more ≡ xs ++ x ∷ [] → (i : ℕ) (y : A) → slice_get more i ≡ Some y → Q y
+all_more Q xs more x all last e i y at = last_or_before (λ j z. Q z) xs x y i all last (ap (λ z. slice_get z i) (sym e) ∙ at)
+
+pub all_none : {A : Type 0} (Q : A → Type 0) (xs : List A) → xs ≡ [] → (i : ℕ) (y : A) → slice_get xs i ≡ Some y → Q y
+all_none Q xs e i y at = none_some (ap (λ z. slice_get z i) (sym e) ∙ at)
+
+pub longer_by_one : {A : Type 0} (xs more : List A) (x : A) (n : ℕ) → length xs ≡ n → more ≡ xs ++ x ∷ [] → length more ≡ n + 1
+longer_by_one xs more x n many e = let same = ap length e in let both = length-append xs (x ∷ []) in omega (arith, same, both, many)
 
 pub none_longer : {X : Type 0} (old : List (Vec X Global)) → AreLonger old old []
 none_longer old = record { count = refl; each = λ place was at. (was, at, sym (append-nil was.items)) }
@@ -90,3 +100,8 @@ of_each_more P tables more table old new items longer were many each pushed numb
     let items_are : list.items ≡ was.0.items ++ item.0 ∷ [] = ap (λ (v : Vec _ Global). v.items) (sym same) ∙ now.2 ∙ ap (λ z. was.0.items ++ alone z) item.1 in
     subst (λ z. AreBeside (P number) z list.items) (sym pushed)
     (subst (AreBeside (P number) (tables ++ table ∷ [])) (sym items_are) (beside_more (P number) tables was.0.items table item.0 (were number was.0 was.1) (each number item.0 item.1)))
+
+pub of_each_none : {T X : Type 0} (P : ℕ → T → X → Type 0) (tables : List T) (lists : List (Vec X Global)) → tables ≡ [] → ((place : ℕ) (list : Vec X Global) → slice_get lists place ≡ Some list → list.items ≡ []) → AreOfEach P tables lists
+of_each_none P tables lists none empty number list at =
+    subst (λ z. AreBeside (P number) z list.items) (sym none)
+    (subst (AreBeside (P number) []) (sym (empty number list at)) (record { count = refl; each = λ i a b here there. none_some here }))

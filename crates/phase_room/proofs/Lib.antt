@@ -8,3 +8,4 @@ pub mod Beginning
 pub mod Ports
 pub mod Acting
 pub mod Dealing
+pub mod Entering

@@ -8,3 +8,5 @@ pub mod Sessions
 pub mod Parts
 pub mod Dealt
 pub mod Opened
+pub mod Begun
+pub mod Entering

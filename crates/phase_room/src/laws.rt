@@ -6,21 +6,28 @@ ghost use Rattle.export_core.specs.Standing.{is_open};
 ghost use Rattle.export_core.specs.States.{State};
 ghost use Rattle.import_core.specs.Importers.{Importing};
 ghost use Rattle.jour_rule.specs.declared.views.View.{View as Seat};
-ghost use Rattle.jour_rule.specs.declared.views.Terms.{Terms};
-ghost use Rattle.jour.specs.Seats.{front, journal};
+ghost use Rattle.jour.specs.Seats.{journal};
 ghost use Rattle.core_machine.specs.Lines.{Line};
 ghost use Rattle.core_setup.specs.Protocols.{protocol_at};
 ghost use Rattle.core_setup.specs.Setup.{Exports, IsSetup, IsSource, Protocol, Setup, Source, family_at};
 ghost use Rattle.table_shared.specs.Opening.{TableOpening};
-ghost use Rattle.phase_legal.specs.Shown.{AreBeside, HandView, IsActing, IsHandOf, PassView, Room as Journals};
+ghost use Rattle.phase_legal.specs.Shown.{HandView, IsActing, PassView};
 ghost use Rattle.import_lock.specs.Terms.{PhaseTerms};
+ghost use Rattle.phase_room.specs.Begun.{IsBegun};
 ghost use Rattle.phase_room.specs.First.{first_phase, new_exporter, new_importer, nothing_in, smallest, two_neighbours};
 ghost use Rattle.phase_room.specs.Locks.{CanExport, CanImport, export_terms, import_terms};
+ghost use Rattle.phase_room.specs.Opened.{AreOfEach, IsPassOf};
 ghost use Rattle.phase_room.specs.Rooms.{TableTerms};
+ghost use Rattle.phase_room.specs.Sessions.{room_seen};
 ghost use Rattle.phase_room.specs.Stands.{AreChannelSeats, AreSeats, StandsChannel, StandsSource, StandsTable};
 ghost use Rattle.phase_room.specs.Together.{AreTogether};
+ghost use Rattle.phase_room.specs.declared.begun.Begun.{Begun as BegunView};
+ghost use Rattle.std.specs.declared.alloc.Global.{Global};
+ghost use Rattle.std.specs.declared.vec.Vec.{Vec};
 
 use attrs::Judge;
+use export_lock::Sends;
+use import_lock::Phase;
 
 /// What stands of a protocol with routes of its own, with the seats that it is given, is all that
 /// its lock begins with.
@@ -76,13 +83,13 @@ pub fn first_phases_stand<J: Judge>()
         × IsSetup (two_neighbours (J.verdict judge)) }
 {}
 
-/// An actor that has its hands and its passes of a room, which have seen nothing of the phase, has
+/// As a room begins each actor, with its hands of the room's protocols and a pass of each table, has
 /// done none of its lines.
-pub fn actors_can_begin()
-    ensures { (room : Journals) (actor : ℕ) (hands : List HandView) (passes : List PassView)
-        → AreBeside (IsHandOf room actor) room.turns hands
-        → AreBeside (λ (table : TableId × Terms TableOpening) (pass : PassView).
-        journal pass ≡ table) room.tables passes
-        → ((i : ℕ) (hand : HandView) → slice_get hands i ≡ Some hand → front hand.1 ≡ [])
-        → IsActing room actor [] hands passes }
+pub fn actors_can_begin<J: Judge + Drop, P: Phase + Sends>()
+    ensures { (begun : BegunView J P) (passes : List (Vec PassView Global))
+        → IsBegun P.terms P.exports begun
+        → AreOfEach IsPassOf begun.room.tables.items passes
+        → (actor : ℕ) (mine : Vec HandView Global) (shown : Vec PassView Global)
+        → slice_get begun.hands.items actor ≡ Some mine → slice_get passes actor ≡ Some shown
+        → IsActing (room_seen P.terms begun.room) actor [] mine.items shown.items }
 {}

@@ -4,10 +4,16 @@
 //! stands then (`laws`); `session` has a protocol with its channel, if it has one, and opens their
 //! locks at the end; `turns` does an operation under its locks; `room` has tables and sessions by
 //! their numbers.
+//!
+//! As a phase begins `tables` makes tables with their seats, which `opened` has by protocol, by
+//! channel and by actor (`deals`); `begin` makes sessions of `parts`, and `begun` is a room with the
+//! hands of actors, which protocols `enter`.
 #![tactic(auto)]
 
 mod begin;
+mod begun;
 mod deals;
+mod enter;
 pub mod laws;
 mod lists;
 mod locks;
@@ -19,11 +25,10 @@ mod tables;
 mod turns;
 
 pub use begin::{begin_neighbour, begin_static};
-pub use deals::push_each;
+pub use begun::Begun;
 pub use lists::{open_marks, open_turns};
 pub use locks::{ExportLock, ImportLock, lock_export, lock_import};
 pub use opened::Opened;
 pub use parts::{ChannelPart, ProtocolPart};
 pub use room::Room;
 pub use session::Session;
-pub use tables::begin_table;
