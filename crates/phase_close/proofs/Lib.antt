@@ -1,0 +1,10 @@
+pub mod Marked
+pub mod Protocols
+pub mod Opened
+pub mod Turned
+pub mod Making
+pub mod Seating
+pub mod Indexed
+pub mod Besides
+pub mod Hearing
+pub mod Lefts

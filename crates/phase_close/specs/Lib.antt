@@ -1,0 +1,5 @@
+pub mod Retired
+pub mod Left
+pub mod Turned
+pub mod Closed
+pub mod Rooms
