@@ -1,0 +1,4 @@
+pub mod Planning
+pub mod Marking
+pub mod Signalling
+pub mod Passing
