@@ -1,5 +1,5 @@
 -- One table of those that are closed.
-use Rattle.std.proofs.Common.{◌≡◌, ℕ, zero, suc, ◌<◌, List, [], ◌∷◌, length, map, set, Some, refl, sym, ap, subst, ◌∙◌, arith}
+use Rattle.std.proofs.Common.{◌≡◌, ℕ, zero, suc, ◌<◌, List, [], ◌∷◌, length, map, set, Some, sym, ap, subst, ◌∙◌, arith}
 use Rattle.std.specs.Prelude.{slice_get}
 use Rattle.std.proofs.lemmas.List.{length-map}
 use Rattle.atomic_table.specs.Seated.{TableId}
@@ -12,7 +12,7 @@ use Rattle.jour_rule.specs.declared.views.View.{View as Seat}
 use Rattle.jour.specs.Seats.{front, journal}
 use Rattle.table_shared.specs.Opening.{TableOpening}
 use Rattle.phase_room.specs.Sessions.{IsChannelOf}
-use Rattle.phase_close.specs.Closed.{Ends, HasEnded, IsEnding, IsSessionEnded, SessionTerms, TableList, all_lists, list_of}
+use Rattle.phase_close.specs.Closed.{EndsOver, IsSessionEnded, SessionTerms, TableList, all_lists, list_of}
 use Rattle.phase_close.specs.Left.{IsSessionLeft}
 use Rattle.phase_close.specs.declared.seats.SessionEnded.{SessionEnded}
 use Rattle.phase_close.specs.declared.session.SessionLeft.{SessionLeft}
@@ -36,14 +36,14 @@ list_within xs k l at = let inside = get_within (all_lists xs) k l at in let man
 
 module _ {J : Type 0} (verdict : J → Net → Route → Verdict) (xs : List Closed) (x : Closed) (left : SessionLeft J) (ended : SessionEnded J) (at : slice_get xs left.table ≡ Some x) (table : ended.table ≡ left.table)
     (done : (key : SessionTerms) → IsSessionLeft verdict key.protocol key.channel key.hands left → IsChannelOf key.protocol key.channel → key.protocol.port ≡ journal x → IsSessionEnded verdict key (front x.1) ended) where
-  pub ends_at : Ends verdict (all_lists xs) left ended
+  pub ends_at : EndsOver verdict (all_lists xs) left ended
   ends_at = (
     table,
     λ key e.
-      let same : (key.protocol.port, e.entries) ≡ list_of x = get_one (all_lists xs) left.table (key.protocol.port, e.entries) (list_of x) e.there (get_map list_of xs left.table x at) in
-      record {
-        entries = e.entries;
-        there = ap (slice_get (all_lists xs)) table ∙ e.there;
-        session = subst (λ z. IsSessionEnded verdict key z ended) (sym (ap (λ (z : TableList). z.1) same)) (done key e.left_is e.channel_is (ap (λ (z : TableList). z.0) same));
-      },
+        let same : (key.protocol.port, e.entries) ≡ list_of x = get_one (all_lists xs) left.table (key.protocol.port, e.entries) (list_of x) e.there (get_map list_of xs left.table x at) in
+        record {
+          entries = e.entries;
+          there = ap (slice_get (all_lists xs)) table ∙ e.there;
+          session = subst (λ z. IsSessionEnded verdict key z ended) (sym (ap (λ (z : TableList). z.1) same)) (done key e.left_is e.channel_is (ap (λ (z : TableList). z.0) same));
+        },
   )

@@ -8,3 +8,6 @@ pub mod Indexed
 pub mod Besides
 pub mod Hearing
 pub mod Lefts
+pub mod Over
+pub mod Ending
+pub mod Recorded

@@ -88,14 +88,14 @@ module _ {J : Type 0} (verdict : J → Net → Route → Verdict) where
     pub entries : List Entry
     pub there : slice_get lists left.table ≡ Some (key.protocol.port, entries)
 
-  pub record HasEnded
+  pub record IsEndedOver
       (lists : List TableList) (key : SessionTerms) (ended : SessionEnded J) : Type 0 where
     pub entries : List Entry
     pub there : slice_get lists ended.table ≡ Some (key.protocol.port, entries)
     pub session : IsSessionEnded key entries ended
 
   -- what was left has ended
-  abbrev pub Ends : List TableList → SessionLeft J → SessionEnded J → Type 0
-  Ends lists left ended =
+  abbrev pub EndsOver : List TableList → SessionLeft J → SessionEnded J → Type 0
+  EndsOver lists left ended =
       (ended.table ≡ left.table)
-      × ((key : SessionTerms) → IsEnding lists key left → HasEnded lists key ended)
+      × ((key : SessionTerms) → IsEnding lists key left → IsEndedOver lists key ended)

@@ -3,3 +3,4 @@ pub mod Left
 pub mod Turned
 pub mod Closed
 pub mod Rooms
+pub mod Whole

@@ -18,6 +18,10 @@ use Rattle.phase_room.specs.declared.session.Session.{Session}
 use Rattle.phase_close.specs.Left.{IsSessionLeft}
 use Rattle.phase_close.specs.declared.session.SessionLeft.{SessionLeft}
 
+-- hands of a protocol's turns
+abbrev pub HandsView : Type 0
+HandsView = Vec HandView Global
+
 -- all places but one are as they were
 pub record AreOthers {X : Type 0} (place : ℕ) (old new : List X) : Type 0 where
   pub count : length new ≡ length old
@@ -25,13 +29,13 @@ pub record AreOthers {X : Type 0} (place : ℕ) (old new : List X) : Type 0 wher
 
 module _ {J P : Type 0} (terms : P → PhaseTerms) where
   -- each is of the turns of the session's protocol
-  abbrev pub AreHandsOf : Session J P → Vec HandView Global → Type 0
+  abbrev pub AreHandsOf : Session J P → HandsView → Type 0
   AreHandsOf session hands =
       AllByRecursion (λ hand. journal hand ≡ (protocol_terms terms session).turns) hands.items
 
   module _ (exports : P → ℕ → Exports) where
     -- by session its channel, and its hands
-    pub record CanClose (sessions : List (Session J P)) (hands : List (Vec HandView Global))
+    pub record CanClose (sessions : List (Session J P)) (hands : List (HandsView))
         : Type 0 where
       pub channels :
           (number : ℕ) (session : Session J P) → slice_get sessions number ≡ Some session
@@ -40,7 +44,7 @@ module _ {J P : Type 0} (terms : P → PhaseTerms) where
 
     module _ (verdict : J → Net → Route → Verdict) where
       pub record IsLeftOf
-          (session : Session J P) (hands : Vec HandView Global) (left : SessionLeft J)
+          (session : Session J P) (hands : HandsView) (left : SessionLeft J)
           : Type 0 where
         pub table : left.table ≡ session.table
         pub left_is :
@@ -48,11 +52,11 @@ module _ {J P : Type 0} (terms : P → PhaseTerms) where
             hands.items left
 
       pub record AreSessionsLeft
-          (sessions : List (Session J P)) (hands : List (Vec HandView Global))
+          (sessions : List (Session J P)) (hands : List (HandsView))
           (lefts : List (SessionLeft J)) : Type 0 where
         pub count : length lefts ≡ length sessions
         pub each :
             (number : ℕ) (session : Session J P) (left : SessionLeft J)
             → slice_get sessions number ≡ Some session → slice_get lefts number ≡ Some left
-            → (own : Vec HandView Global) → slice_get hands number ≡ Some own
+            → (own : HandsView) → slice_get hands number ≡ Some own
             → IsLeftOf session own left

@@ -5,7 +5,7 @@ ghost use Rattle.jour.specs.Seats.{front, journal};
 ghost use Rattle.table_shared.specs.Phases.{IsHeard};
 ghost use Rattle.phase_legal.specs.Shown.{AreBeside};
 ghost use Rattle.phase_room.specs.Sessions.{IsChannelOf};
-ghost use Rattle.phase_close.specs.Closed.{AreHeard, Ends, IsEnding, IsSessionEnded, SessionTerms, all_lists};
+ghost use Rattle.phase_close.specs.Closed.{AreHeard, EndsOver, IsEnding, IsSessionEnded, SessionTerms, all_lists};
 ghost use Rattle.phase_close.specs.Left.{IsSessionLeft};
 
 use crate::session::SessionLeft;
@@ -104,7 +104,7 @@ fn end_session_at<J: Judge + Drop>(
     requires { (key : SessionTerms)
         × IsEnding J.verdict (all_lists closings.old.items) key session }
     ensures same { all_lists closings.new.items ≡ all_lists closings.old.items }
-    ensures ended { Ends J.verdict (all_lists closings.old.items) session result }
+    ensures ended { EndsOver J.verdict (all_lists closings.old.items) session result }
 {
     let place = session.table as usize;
     end_seats(&mut closings[place], session)
@@ -121,7 +121,7 @@ pub fn end_sessions<J: Judge + Drop>(
         × IsEnding J.verdict (all_lists closings.old.items) key session) sessions.items }
     ensures same { all_lists closings.new.items ≡ all_lists closings.old.items }
     ensures ended { IfOk result (λ all.
-        AreBeside (Ends J.verdict (all_lists closings.old.items)) sessions.items all.items) }
+        AreBeside (EndsOver J.verdict (all_lists closings.old.items)) sessions.items all.items) }
 {
     let mut all = Vec::new(alloc);
     for session in sessions {

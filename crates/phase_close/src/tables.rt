@@ -1,9 +1,11 @@
 //! Tables are closed.
 ghost use Rattle.std.specs.Prelude.{◌≡◌, ◌<◌, Some, length, slice_get, IfOk};
+ghost use Rattle.std.specs.List.{AllByRecursion};
 ghost use Rattle.jour.specs.Seats.{front, journal};
 ghost use Rattle.phase_legal.specs.Shown.{AreBeside};
 ghost use Rattle.table_shared.specs.Phases.{IsHeard, IsPhase};
 ghost use Rattle.phase_close.specs.Closed.{TableList, all_lists};
+ghost use Rattle.phase_close.specs.Whole.{ArePassesHeard};
 
 use bits_ip::OutOfMemory;
 use std::alloc::Global;
@@ -51,6 +53,18 @@ pub fn hear_actor(closings: &mut Vec<Closing>, passes: Vec<TablePass>)
     for pass in passes {
         hear_at(closings, place, pass);
         place += 1;
+    }
+}
+
+/// The same for all actors.
+pub fn hear_actors(closings: &mut Vec<Closing>, actors: Vec<Vec<TablePass>>)
+    requires { AllByRecursion (λ passes. AreBeside (λ l pass. journal pass ≡ l.0)
+        (all_lists closings.old.items) passes.items) actors.items }
+    ensures same { all_lists closings.new.items ≡ all_lists closings.old.items }
+    ensures heard { AllByRecursion (ArePassesHeard (all_lists closings.old.items)) actors.items }
+{
+    for passes in actors {
+        hear_actor(closings, passes);
     }
 }
 

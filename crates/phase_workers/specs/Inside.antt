@@ -9,7 +9,7 @@ use Rattle.export_lock.specs.Kept.{is_running}
 use Rattle.export_lock.specs.declared.state.ExportState.{ExportState}
 use Rattle.phase_workers.specs.Turns.{PushesSome}
 use Rattle.phase_workers.specs.declared.turns.Did.{Did}
-use Rattle.phase_workers.specs.declared.turns.Did.TheVariants.{Fed, Took, Pushed, Nothing}
+use Rattle.phase_workers.specs.declared.turns.Did.TheVariants.{Pushed, Nothing}
 
 abbrev pub DoesPush :
     {J : Type 0} → (J → Net → Route → Verdict) → (old new : ExportState J) → Did → Type 0

@@ -75,8 +75,8 @@ fn help_channel<R: Wait, J: Judge + Drop, P: Sends>(
     channel.unlock(held, state);
 }
 
-/// Helps actors of a room whose tables have no room for a change. Channels are found by the numbers
-/// of their cursors.
+/// Helps a room's actors where a table's journal is full. Channels are found by the numbers of their
+/// cursors.
 #[derive(Drop)]
 pub struct Help<'a, J: Judge + Drop, P: Phase + Sends> {
     pub alloc: Global,

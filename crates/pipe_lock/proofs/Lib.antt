@@ -2,3 +2,4 @@ pub mod Planning
 pub mod Marking
 pub mod Signalling
 pub mod Passing
+pub mod Worked

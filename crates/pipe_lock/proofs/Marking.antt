@@ -19,9 +19,9 @@ use Rattle.core_setup.specs.Protocols.{signal_of}
 use Rattle.table_shared.specs.Opening.{TableOpening}
 use Rattle.phase_legal.specs.Stamps.{AreFrom, AreStamps, item_in, items_of, mark_words, notices_from}
 use Rattle.phase_legal.specs.Turns.{words_in}
-use Rattle.pipe_lock.specs.Calls.{HasMarked, IsDue, IsSameStamp}
+use Rattle.pipe_lock.specs.Calls.{HasStamped, IsDue, IsSameStamp}
 use Rattle.pipe_lock.specs.Kept.{IsMarked, IsMarkedSoFar}
-use Rattle.pipe_lock.specs.Terms.{DirectionTerms, IsDirection, PipeTerms, past_ops, rules_in}
+use Rattle.pipe_lock.specs.Terms.{DirectionTerms, WritesTable, PipeTerms, past_ops, rules_in}
 use Rattle.pipe_lock.specs.declared.state.PipeState.{PipeState}
 
 item_back : (s : Signal) (h : ℕ) → reverse (map item_in (map mark_words (items_of s h))) ≡ items_of s h
@@ -55,7 +55,7 @@ stamps_more rules i table h past op earlier made items ns Renew are = (refl, are
 -- ---- a direction
 
 module _ (key : PipeTerms) (d : DirectionTerms) (op : Op) (earlier : List Op) (mark : Mark) (s t : TableId × Seat ℕ) (same : IsSameStamp s t) where
-  pub marked_more : IsDirection key d → signal_of mark ≡ ((rules_in key).gives key.number (earlier ++ past_ops key) op).signal → HasMarked d.table (signal_of mark) s t → IsMarked key d earlier s → IsMarked key d (op ∷ earlier) t
+  pub marked_more : WritesTable key d → signal_of mark ≡ ((rules_in key).gives key.number (earlier ++ past_ops key) op).signal → HasStamped d.table (signal_of mark) s t → IsMarked key d earlier s → IsMarked key d (op ∷ earlier) t
   marked_more is signal did were =
       let items_are : items_of_stamp t ≡ items_of (signal_of mark) did.head ++ items_of_stamp s = items_more (signal_of mark) did.head (words_in (own s.1)) (words_in (own t.1)) did.said in
       let rules = rules_in key in
@@ -92,11 +92,11 @@ one_late key d op ops s is = record { late = op ∷ []; before = ops; few = omeg
 -- ---- both
 
 module _ (key : PipeTerms) (op : Op) (earlier : List Op) (mark : Mark) (a : PipeState) (due : IsDue key op earlier mark a) where
-  pub out_marked : (table : TableId × Terms TableOpening) (t : TableId × Seat ℕ) → key.out.table ≡ table → IsSameStamp a.out t → HasMarked table (signal_of mark) a.out t → IsMarked key key.out (op ∷ earlier) t
-  out_marked table t here same did = marked_more key key.out op earlier mark a.out t same due.piping.terms.out due.signal (subst (λ z. HasMarked z (signal_of mark) a.out t) (sym here) did) due.marked.out
+  pub out_marked : (table : TableId × Terms TableOpening) (t : TableId × Seat ℕ) → key.out.table ≡ table → IsSameStamp a.out t → HasStamped table (signal_of mark) a.out t → IsMarked key key.out (op ∷ earlier) t
+  out_marked table t here same did = marked_more key key.out op earlier mark a.out t same due.piping.terms.out due.signal (subst (λ z. HasStamped z (signal_of mark) a.out t) (sym here) did) due.marked.out
 
-  pub back_marked : (table : TableId × Terms TableOpening) (t : TableId × Seat ℕ) → key.back.table ≡ table → IsSameStamp a.back t → HasMarked table (signal_of mark) a.back t → IsMarked key key.back (op ∷ earlier) t
-  back_marked table t here same did = marked_more key key.back op earlier mark a.back t same due.piping.terms.back due.signal (subst (λ z. HasMarked z (signal_of mark) a.back t) (sym here) did) due.marked.back
+  pub back_marked : (table : TableId × Terms TableOpening) (t : TableId × Seat ℕ) → key.back.table ≡ table → IsSameStamp a.back t → HasStamped table (signal_of mark) a.back t → IsMarked key key.back (op ∷ earlier) t
+  back_marked table t here same did = marked_more key key.back op earlier mark a.back t same due.piping.terms.back due.signal (subst (λ z. HasStamped z (signal_of mark) a.back t) (sym here) did) due.marked.back
 
   pub out_late : (t : TableId × Seat ℕ) → IsSameStamp a.out t → own t.1 ≡ own a.out.1 → IsMarkedSoFar key key.out (op ∷ earlier) t
   out_late t same receipts = one_late key key.out op earlier t (unmarked_stays key key.out op earlier mark a.out t same receipts due.marked.out)
@@ -105,7 +105,7 @@ module _ (key : PipeTerms) (op : Op) (earlier : List Op) (mark : Mark) (a : Pipe
   back_late = one_late key key.back op earlier a.back due.marked.back
 
   -- by the answer of the second
-  pub back_so_far : {A E : Type 0} (r : Result A E) (table : TableId × Terms TableOpening) (t : TableId × Seat ℕ) → key.back.table ≡ table → IsSameStamp a.back t → IfOk r (λ _. HasMarked table (signal_of mark) a.back t) → OnErr r (own t.1 ≡ own a.back.1)
+  pub back_so_far : {A E : Type 0} (r : Result A E) (table : TableId × Terms TableOpening) (t : TableId × Seat ℕ) → key.back.table ≡ table → IsSameStamp a.back t → IfOk r (λ _. HasStamped table (signal_of mark) a.back t) → OnErr r (own t.1 ≡ own a.back.1)
       → IsMarkedSoFar key key.back (op ∷ earlier) t
   back_so_far (Ok x) table t here same did none = none_late key key.back (op ∷ earlier) t (back_marked table t here same did)
   back_so_far (Err e) table t here same did none = one_late key key.back op earlier t (unmarked_stays key key.back op earlier mark a.back t same none due.marked.back)

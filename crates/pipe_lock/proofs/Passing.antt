@@ -31,7 +31,7 @@ use Rattle.phase_legal.specs.Stamps.{item_in, items_in, items_of, mark_words, op
 use Rattle.phase_legal.specs.Turns.{words_in}
 use Rattle.phase_legal.proofs.Stamping.{opens_on, stretch_opens}
 use Rattle.table_shared.specs.Opening.{TableOpening}
-use Rattle.pipe_lock.specs.Calls.{HasMarked, IsSameStamp}
+use Rattle.pipe_lock.specs.Calls.{HasStamped, IsSameStamp}
 use Rattle.pipe_lock.specs.Doors.{MayPass}
 
 module _ {J : Type 0} (verdict : J → Net → Route → Verdict) (done : List Key) (key : LaneTerms) (a : PipeLane J) (table : TableId × Terms TableOpening) (signal : Signal) (s : TableId × Seat ℕ)
@@ -66,7 +66,7 @@ module _ {J : Type 0} (verdict : J → Net → Route → Verdict) (done : List K
 
 -- an up stands where the cursor has seen its table, in the phase
 module _ {J : Type 0} (verdict : J → Net → Route → Verdict) (table : TableId × Terms TableOpening) (signal : Signal) (s t : TableId × Seat ℕ) (a b : ExportState J) (may : MayMark verdict true table signal s a) (goes : GoesOn verdict a b) where
-  pub marked_there : words_in (own t.1) ≡ words_in (own s.1) ++ map mark_words (items_of signal (head_of b.cursor.0.1)) → HasMarked table signal s t
+  pub marked_there : words_in (own t.1) ≡ words_in (own s.1) ++ map mark_words (items_of signal (head_of b.cursor.0.1)) → HasStamped table signal s t
   marked_there said = record {
     head = head_of b.cursor.0.1;
     least =

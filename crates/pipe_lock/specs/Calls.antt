@@ -24,7 +24,7 @@ pub record IsSameStamp (old new : TableId × Seat ℕ) : Type 0 where
   pub number : number_of new.1.role ≡ number_of old.1.role
 
 -- The stamp has marked a signal. An up stands in the phase of the table that is read.
-pub record HasMarked
+pub record HasStamped
     (table : TableId × Terms TableOpening) (signal : Signal) (old new : TableId × Seat ℕ)
     : Type 0 where
   pub head : ℕ

@@ -17,7 +17,7 @@ use Rattle.jour_rule.specs.declared.views.View.{View as Seat}
 use Rattle.jour.specs.Seats.{journal, number_of, own}
 use Rattle.phase_legal.specs.Stamps.{opens}
 use Rattle.table_shared.specs.Opening.{TableOpening}
-use Rattle.pipe_lock.specs.Calls.{HasMarked}
+use Rattle.pipe_lock.specs.Calls.{HasStamped}
 use Rattle.pipe_lock.specs.Terms.{DirectionTerms, PipeTerms, past_ops, rules_in}
 
 pub record IsDoor
@@ -49,5 +49,5 @@ pub record IsLaneOf (key : PipeTerms) (direction : DirectionTerms) (lane : LaneT
 -- it has gone down, or it has something more to withdraw first
 abbrev pub FallsBy :
     Bool → TableId × Terms TableOpening → TableId × Seat ℕ → TableId × Seat ℕ → Type 0
-FallsBy true table old new = HasMarked table Fall old new
+FallsBy true table old new = HasStamped table Fall old new
 FallsBy false table old new = own new.1 ≡ own old.1

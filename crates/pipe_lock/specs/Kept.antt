@@ -37,6 +37,7 @@ pub record IsPiping (key : PipeTerms) (state : PipeState) : Type 0 where
       (ops_told key (front state.turns.1))))
 
 -- A direction's stamp has marked what these operations signal, and no up stands before the phase.
+-- Where in the phase an up stands is free, since a direction writes a table.
 pub record IsMarked
     (key : PipeTerms) (direction : DirectionTerms) (ops : List Op) (stamp : TableId × Seat ℕ)
     : Type 0 where

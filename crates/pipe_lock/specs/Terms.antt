@@ -45,7 +45,7 @@ abbrev pub ops_told : PipeTerms → List Entry → List Op
 ops_told key es = ops_of (turns_told key.phase.lines es)
 
 -- the direction writes a table
-pub record IsDirection (key : PipeTerms) (direction : DirectionTerms) : Type 0 where
+pub record WritesTable (key : PipeTerms) (direction : DirectionTerms) : Type 0 where
   pub target : ℕ
   pub target_is : (rules_in key).target direction.number ≡ Some target
 
@@ -58,8 +58,8 @@ pub record AreTerms (key : PipeTerms) : Type 0 where
   pub pipe : Pipe
   pub body : protocol.body ≡ IsPipe pipe
   pub belong : (rules_in key).belong key.number ≡ key.out.number ∷ key.back.number ∷ []
-  pub out : IsDirection key key.out
-  pub back : IsDirection key key.back
+  pub out : WritesTable key key.out
+  pub back : WritesTable key key.back
   pub start : key.turns.1.start ≡ 0
   pub cursors : key.turns.1.cursors ≡ 0
   pub makers : key.turns.1.opening ≡ key.turns.1.makers

@@ -4,7 +4,7 @@ ghost use Rattle.core_machine.specs.Rules.{Fall};
 ghost use Rattle.core_setup.specs.Protocols.{signal_of};
 ghost use Rattle.export_lock.specs.Locks.{lane_terms_of};
 ghost use Rattle.jour.specs.Seats.{own};
-ghost use Rattle.pipe_lock.specs.Calls.{HasMarked, IsSameStamp};
+ghost use Rattle.pipe_lock.specs.Calls.{HasStamped, IsSameStamp};
 ghost use Rattle.pipe_lock.specs.Doors.{FallsBy, IsDoor, MayPass};
 
 use crate::lane::{fall_turn, other_turn};
@@ -77,7 +77,7 @@ impl<'a, J: Judge + Drop, P: Sends, G: Gate, H: Helper> LaneDoor<'a, J, P, G, H>
             Fall stamp.old }
         ensures same { IsSameStamp stamp.old stamp.new }
         ensures marked { IfOk result (λ _.
-            HasMarked self.now.reads.now Fall stamp.old stamp.new) }
+            HasStamped self.now.reads.now Fall stamp.old stamp.new) }
         ensures refused { OnErr result (own stamp.new.1 ≡ own stamp.old.1) }
     {
         for _ in rt.forever() {
@@ -97,7 +97,7 @@ impl<'a, J: Judge + Drop, P: Sends, G: Gate, H: Helper> LaneDoor<'a, J, P, G, H>
         requires other { signal_of mark ≢ Fall }
         ensures same { IsSameStamp stamp.old stamp.new }
         ensures marked { IfOk result (λ _.
-            HasMarked self.now.reads.now (signal_of mark) stamp.old stamp.new) }
+            HasStamped self.now.reads.now (signal_of mark) stamp.old stamp.new) }
         ensures refused { OnErr result (own stamp.new.1 ≡ own stamp.old.1) }
     {
         let (held, mut lane) = self.lock.lock(rt);
@@ -120,7 +120,7 @@ impl<'a, J: Judge + Drop, P: Sends, G: Gate, H: Helper> Direction for LaneDoor<'
 
     fn mark_turn<R: Wait>(&self, rt: &R, stamp: &mut Stamp, mark: Mark) -> Result<(), OpFault> {
         match mark {
-            Mark::Stay => self.take(rt, stamp, Mark::Stay),
+            Mark::Stay => Ok(()),
             Mark::Up => self.take(rt, stamp, Mark::Up),
             Mark::Down => self.fall(rt, stamp),
             Mark::Refresh => self.take(rt, stamp, Mark::Refresh),

@@ -8,7 +8,7 @@ ghost use Rattle.export_lock.specs.LaneTurns.{AreSources};
 ghost use Rattle.export_lock.specs.Lanes.{IsLane, IsSomeLane, LaneTerms};
 ghost use Rattle.export_lock.specs.MarkTurns.{MayMarkLane};
 ghost use Rattle.jour.specs.Seats.{own};
-ghost use Rattle.pipe_lock.specs.Calls.{HasMarked, IsSameStamp};
+ghost use Rattle.pipe_lock.specs.Calls.{HasStamped, IsSameStamp};
 ghost use Rattle.pipe_lock.specs.Doors.{FallsBy, IsDoor, MayPass};
 
 use attrs::{Judge, Src};
@@ -34,7 +34,7 @@ fn take_mark<R: Wait, J: Judge>(
         → IsLane J.verdict done key lane.old → IsSomeLane J.verdict key lane.new }
     ensures same { IsSameStamp stamp.old stamp.new }
     ensures marked { IfOk result (λ _.
-        HasMarked reads.now (signal_of mark) stamp.old stamp.new) }
+        HasStamped reads.now (signal_of mark) stamp.old stamp.new) }
     ensures refused { OnErr result (own stamp.new.1 ≡ own stamp.old.1) }
 {
     lane.mark_turn(rt, reads, stamp, mark)
@@ -115,7 +115,7 @@ pub(crate) fn other_turn<R: Wait, J: Judge>(
         → IsSomeLane J.verdict key lane.old → IsSomeLane J.verdict key lane.new }
     ensures same { IsSameStamp stamp.old stamp.new }
     ensures marked { IfOk result (λ _.
-        HasMarked reads.now (signal_of mark) stamp.old stamp.new) }
+        HasStamped reads.now (signal_of mark) stamp.old stamp.new) }
     ensures refused { OnErr result (own stamp.new.1 ≡ own stamp.old.1) }
 {
     if lane.state.exporter.is_flushing() {

@@ -5,10 +5,15 @@
 //! (`PipeState::plan_turn`), and both directions come up, go down or send anew as it asks
 //! (`give_marks`), each under its stamp; `op_turn` does both. What a direction does for its mark is
 //! its own (`Direction`): one that goes down has withdrawn all that stood. A lock keeps all this with
-//! a key that names the phase and the journals (`PipeKey`, `Pipes`).
+//! a key that names the phase and the journals (`PipeKey`, `Pipes`), and `operate` takes an operation
+//! from free lock to free lock.
+//!
+//! `LaneDoor` is a direction behind its own lock, which it gives back between two withdrawals: so
+//! others can read the table that is written while they wait for room there.
 //!
 //! `state` has the value, `begin` what it is as a phase begins, `key` what the lock is of; `plan`,
-//! `mark` and `turn` have the calls, and `laws` what follows for a phase.
+//! `mark` and `turn` have the calls, `locked` those under the lock; `lane` has what a direction does,
+//! `door` the same behind its lock, and `laws` what follows for a phase.
 #![tactic(auto)]
 
 mod begin;
@@ -16,6 +21,7 @@ mod door;
 mod key;
 mod lane;
 pub mod laws;
+mod locked;
 mod mark;
 mod plan;
 mod state;
@@ -23,5 +29,6 @@ mod turn;
 
 pub use door::{LaneDoor, LaneLock};
 pub use key::{DirectionKey, PipeKey, Pipes};
+pub use locked::{PipeLock, operate};
 pub use mark::Direction;
 pub use state::PipeState;

@@ -21,7 +21,7 @@ pub trait Direction {
     ghost use Rattle.jour_rule.specs.declared.views.View.{View as Seat};
     ghost use Rattle.jour.specs.Seats.{own};
     ghost use Rattle.table_shared.specs.Opening.{TableOpening};
-    ghost use Rattle.pipe_lock.specs.Calls.{HasMarked, IsSameStamp};
+    ghost use Rattle.pipe_lock.specs.Calls.{HasStamped, IsSameStamp};
 
     /// The table that it reads.
     ghost table: { Self → TableId × Terms TableOpening };
@@ -35,7 +35,7 @@ pub trait Direction {
         requires may { may (signal_of mark) stamp.old self.now }
         ensures same { IsSameStamp stamp.old stamp.new }
         ensures marked { IfOk result (λ _.
-            HasMarked (table self.now) (signal_of mark) stamp.old stamp.new) }
+            HasStamped (table self.now) (signal_of mark) stamp.old stamp.new) }
         ensures refused { OnErr result (own stamp.new.1 ≡ own stamp.old.1) };
 }
 

@@ -18,8 +18,8 @@ impl PipeState {
     /// Does an operation where no fault came before: its line is recorded under the hand (at its
     /// place, from 1 on), and both directions take its mark.
     ///
-    /// A fault is left in the value too. At `Memory` the operation may not be recorded, which the
-    /// hand tells; else a direction has yet to take its mark.
+    /// A fault is left in the value too. At `Memory` the operation may not be recorded; else a
+    /// direction has yet to take its mark.
     pub fn op_turn<R: Wait, D: Direction>(
         &mut self,
         rt: &R,

@@ -1,4 +1,4 @@
-use Rattle.std.proofs.Common.{◌≡◌, length, refl}
+use Rattle.std.proofs.Common.{length, refl}
 use Rattle.std.proofs.lemmas.Option.{slice_get_read}
 use Rattle.phase_close.proofs.Indexed.{ends_at, list_within, same_lists}
 use Rattle.phase_close.proofs.seats.end_session_at.Goals as goal

@@ -2,7 +2,7 @@ use Rattle.std.proofs.Common.{◌≡◌, List, [], ◌∷◌, ◌++◌, refl, sy
 use Rattle.std.specs.List.{AllByRecursion}
 use Rattle.std.proofs.lemmas.List.{nil_from_length}
 use Rattle.phase_legal.specs.Shown.{AreBeside}
-use Rattle.phase_close.specs.Closed.{Ends, IsEnding, SessionTerms, TableList, all_lists}
+use Rattle.phase_close.specs.Closed.{EndsOver, IsEnding, SessionTerms, TableList, all_lists}
 use Rattle.phase_close.specs.declared.session.SessionLeft.{SessionLeft}
 use Rattle.phase_close.proofs.Besides.{beside_more, beside_none}
 use Rattle.phase_close.proofs.seats.end_sessions.Goals as goal
@@ -16,7 +16,7 @@ loop-session-init g c =
       rest = subst (AllByRecursion (λ (s : SessionLeft g.row.J.Denot). (key : SessionTerms) × IsEnding g.J.Judge.verdict lists key s)) (sym whole) c.requires;
       done = [];
       all = whole;
-      beside = subst (AreBeside (Ends g.J.Judge.verdict lists) []) (sym c.new-all.ensures.items) (beside_none (Ends g.J.Judge.verdict lists));
+      beside = subst (AreBeside (EndsOver g.J.Judge.verdict lists) []) (sym c.new-all.ensures.items) (beside_none (EndsOver g.J.Judge.verdict lists));
     }
 
 pub end_session_at-ended-requires : goal.end_session_at-ended-requires
@@ -32,15 +32,15 @@ loop-session-preserved g c =
     let lists = all_lists c.args.closings.now.items in
     let steps = c.in-Some.ensures.steps.0 in
     let r = c.end_session_at-ended.ensures in
-    let ends = subst (λ (l : List TableList). Ends g.J.Judge.verdict l c.in-Some.session c.end_session_at-ended.result) i.same r.ended in
+    let ends = subst (λ (l : List TableList). EndsOver g.J.Judge.verdict l c.in-Some.session c.end_session_at-ended.result) i.same r.ended in
     record {
       same = r.same ∙ i.same;
       rest = (subst (AllByRecursion (λ (s : SessionLeft g.row.J.Denot). (key : SessionTerms) × IsEnding g.J.Judge.verdict lists key s)) steps i.rest).1;
       done = i.done ++ c.in-Some.session ∷ [];
       all = append_assoc i.done (c.in-Some.session ∷ []) c.next.new.self.rest.items ∙ ap (λ l. i.done ++ l) (sym steps) ∙ i.all;
       beside =
-          subst (AreBeside (Ends g.J.Judge.verdict lists) (i.done ++ c.in-Some.session ∷ [])) (sym c.in_ok-push.ensures.items)
-          (beside_more (Ends g.J.Judge.verdict lists) i.done c.loop-session.all.items c.in-Some.session c.end_session_at-ended.result i.beside ends);
+          subst (AreBeside (EndsOver g.J.Judge.verdict lists) (i.done ++ c.in-Some.session ∷ [])) (sym c.in_ok-push.ensures.items)
+          (beside_more (EndsOver g.J.Judge.verdict lists) i.done c.loop-session.all.items c.in-Some.session c.end_session_at-ended.result i.beside ends);
     }
 
 pub returns-clause-ended : goal.returns-clause-ended
@@ -49,4 +49,4 @@ returns-clause-ended g c =
     let lists = all_lists c.args.closings.now.items in
     let rest = c.loop-session.session-iterator.rest in
     let none : rest.items ≡ [] = nil_from_length rest.items (omega (arith, c.in-None.ensures.steps, rest.ok.0)) in
-    subst (λ z. AreBeside (Ends g.J.Judge.verdict lists) z c.loop-session.all.items) (sym (append-nil i.done) ∙ ap (λ z. i.done ++ z) (sym none) ∙ i.all) i.beside
+    subst (λ z. AreBeside (EndsOver g.J.Judge.verdict lists) z c.loop-session.all.items) (sym (append-nil i.done) ∙ ap (λ z. i.done ++ z) (sym none) ∙ i.all) i.beside

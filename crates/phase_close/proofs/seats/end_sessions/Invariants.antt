@@ -1,7 +1,7 @@
 use Rattle.std.proofs.Common.{◌≡◌, ◌++◌, List}
 use Rattle.std.specs.List.{AllByRecursion}
 use Rattle.phase_legal.specs.Shown.{AreBeside}
-use Rattle.phase_close.specs.Closed.{Ends, IsEnding, SessionTerms, all_lists}
+use Rattle.phase_close.specs.Closed.{EndsOver, IsEnding, SessionTerms, all_lists}
 use Rattle.phase_close.specs.declared.session.SessionLeft.{SessionLeft}
 use Rattle.phase_close.proofs.seats.end_sessions.Given as goal
 
@@ -11,5 +11,5 @@ invariant-loop-session g l = record {
   rest : AllByRecursion (λ (s : SessionLeft g.row.J.Denot). (key : SessionTerms) × IsEnding g.J.Judge.verdict (all_lists l.fn.closings.items) key s) l.session-iterator.rest.items;
   done : List (SessionLeft g.row.J.Denot);
   all : done ++ l.session-iterator.rest.items ≡ l.fn.sessions.items;
-  beside : AreBeside (Ends g.J.Judge.verdict (all_lists l.fn.closings.items)) done l.all.items;
+  beside : AreBeside (EndsOver g.J.Judge.verdict (all_lists l.fn.closings.items)) done l.all.items;
 }

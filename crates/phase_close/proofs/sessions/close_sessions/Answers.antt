@@ -1,4 +1,4 @@
-use Rattle.std.proofs.Common.{◌≡◌, ◌+◌, ◌≤◌, List, [], ◌∷◌, ◌++◌, length, Some, refl, sym, ap, subst, ◌∙◌, arith, append-nil, append_assoc, length-append}
+use Rattle.std.proofs.Common.{◌≡◌, ◌≤◌, [], ◌∷◌, ◌++◌, length, refl, sym, ap, subst, ◌∙◌, arith, append-nil, append_assoc, length-append}
 use Rattle.std.specs.Prelude.{slice_get}
 use Rattle.std.proofs.Math.Nat.{le_refl}
 use Rattle.std.proofs.lemmas.List.{nil_from_length}
@@ -59,8 +59,8 @@ loop-session-preserved g c =
           subst (AreSessionsLeft g.P.Phase.terms g.P.Sends.exports g.J.Judge.verdict (i.done ++ x ∷ []) all) (sym c.in_ok-keep.ensures)
           (one_left g.P.Phase.terms g.P.Sends.exports g.J.Judge.verdict all i.done c.loop-session.lefts.items x c.in_ok-left.left i.left
           (λ own h.
-            if_one (slice_get now c.loop-session.place) (λ l. IsLeftOf g.P.Phase.terms g.P.Sends.exports g.J.Judge.verdict x l c.in_ok-left.left) own
-            (ap (slice_get now) place ∙ i.later (length i.done) (le_refl (length i.done)) ∙ h) c.in_ok-left.ensures.left));
+          if_one (slice_get now c.loop-session.place) (λ l. IsLeftOf g.P.Phase.terms g.P.Sends.exports g.J.Judge.verdict x l c.in_ok-left.left) own
+          (ap (slice_get now) place ∙ i.later (length i.done) (le_refl (length i.done)) ∙ h) c.in_ok-left.ensures.left));
     }
 
 pub returns : goal.returns

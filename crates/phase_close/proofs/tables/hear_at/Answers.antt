@@ -1,4 +1,4 @@
-use Rattle.std.proofs.Common.{◌≡◌, length, refl, subst, sym}
+use Rattle.std.proofs.Common.{length, refl, subst}
 use Rattle.std.proofs.lemmas.Option.{slice_get_read}
 use Rattle.core_setup.proofs.PairLemmas.{get_one}
 use Rattle.table_shared.specs.Phases.{IsHeard}

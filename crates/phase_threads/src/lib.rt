@@ -1,0 +1,14 @@
+//! A thread for each actor of a phase.
+//!
+//! A thread owes what its actor is once it is through (`Owes`), and an actor whose thread can't be
+//! started does its lines at once. `act_all` waits for all of them.
+//!
+//! `actor` has an actor that is through, `thread` starts one and waits for it, `all` does so for all.
+#![tactic(auto)]
+
+mod actor;
+mod all;
+mod thread;
+
+pub use actor::{Acted, Owes};
+pub use all::act_all;
