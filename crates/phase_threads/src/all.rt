@@ -72,6 +72,39 @@ fn finish_each<J: Judge + Drop, P: Phase + Sends, R: Threads>(
     Ok(all)
 }
 
+/// All actors do their lines within a scope, each in a thread of its own where one can be started.
+pub fn act_in<
+    's,
+    E,
+    R: Threads + Wait + Sync,
+    G: Gate + Sync,
+    H: Helper + Sync,
+    A: Answers + Sync,
+    J: Judge + Drop + Send,
+    P: Phase + Sends + Send,
+>(
+    alloc: Global,
+    scope: &Scope<'s, E>,
+    rt: &'s R,
+    gate: &'s G,
+    helper: &'s H,
+    answers: &'s A,
+    room: &'s Room<J, P>,
+    queries: &'s Vec<Query>,
+    lines: &'s Vec<Line>,
+    actors: Vec<Actor>,
+) -> Result<Vec<Acted>, OutOfMemory>
+    requires { All (IsReady P.terms P.exports (A.setup answers.now) room.now queries.now.items
+        lines.now.items) actors.items }
+    ensures { IfOk result (λ all.
+        HaveActed P.terms P.exports room.now (map number_of actors.items) all.items) }
+{
+    let started = start_each(
+        alloc, scope, rt, gate, helper, answers, room, queries, lines, actors,
+    )?;
+    finish_each(alloc, rt, room, started)
+}
+
 /// All actors do their lines, each in a thread of its own where one can be started. They come back
 /// in their order.
 pub fn act_all<
@@ -106,10 +139,9 @@ pub fn act_all<
             ensures { IfOk result (λ all. HaveActed P.terms P.exports room.entry.now
                 (map number_of actors.items) all.items) }
         {
-            let started = start_each(
+            act_in(
                 alloc, scope, rt, gate, helper, answers, room, queries, lines, actors,
-            )?;
-            finish_each(alloc, rt, room, started)
+            )
         },
     )
 }
