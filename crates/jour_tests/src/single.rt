@@ -51,6 +51,16 @@ impl Single {
         Some(at)
     }
 
+    /// Starts the cursor where it stands, and answers where. None if it is started already.
+    pub fn start_here(&mut self) -> Option<u64> {
+        if self.started {
+            return None;
+        }
+        self.cursor.start();
+        self.started = true;
+        Some(self.cursor.position())
+    }
+
     /// Closes the cursor if it is started.
     pub fn close(&mut self) {
         if self.started {
@@ -73,6 +83,11 @@ impl Single {
     pub fn meet(&mut self) -> u64 {
         self.cursor.meet(&mut self.bench.pass);
         self.cursor.known()
+    }
+
+    /// The writer tells the cursor of the whole list. Answers the head.
+    pub fn tell(&mut self) -> u64 {
+        self.bench.writer.tell_cursor(&mut self.cursor)
     }
 
     /// What passes have seen that the writer, the maker, the journal's pass and the cursor give.
