@@ -1,9 +1,11 @@
 //! The end of a table's phase.
-ghost use Rattle.std.specs.Prelude.{◌≡◌};
+ghost use Rattle.std.specs.Prelude.{◌≡◌, ◌≤◌};
 ghost use Rattle.std.specs.List.{AllByRecursion};
-ghost use Rattle.jour.specs.Seats.{front, journal};
+ghost use Rattle.jour_rule.specs.Moves.{position_of};
+ghost use Rattle.jour.specs.Seats.{front, head_of, journal};
 ghost use Rattle.table_shared.specs.Kept.{IsKept};
 ghost use Rattle.table_shared.specs.Phases.{IsHeard, IsPhase, IsRetired};
+ghost use Rattle.table_shared.specs.Views.{IsTold};
 
 use crate::desk::Desk;
 use crate::law::{TableCursor, TablePass};
@@ -87,6 +89,23 @@ impl Closing {
         ensures heard { IsHeard self.old.1.seen.terms (front self.old.1) cursor.old.0.1 }
     {
         self.desk.writer.hear_cursor(cursor);
+    }
+
+    /// The cursor has then seen the whole list of entries and knows its end, and stays where it is.
+    /// What it had seen begins the list, and the head that it knew is at most the list's.
+    pub fn tell_cursor(&mut self, cursor: &mut TableCursor)
+        requires { journal cursor.old.0 ≡ journal self.old }
+        ensures same { (journal self.new ≡ journal self.old)
+            × (front self.new.1 ≡ front self.old.1) }
+        ensures cursor { (journal cursor.new.0 ≡ journal cursor.old.0)
+            × (cursor.new.0.1.role ≡ cursor.old.0.1.role)
+            × (cursor.new.1 ≡ cursor.old.1) }
+        ensures seen { front cursor.new.0.1 ≡ front self.old.1 }
+        ensures told { IsTold (head_of self.old.1) cursor.old.0.1 cursor.new.0.1 }
+        ensures heard { IsHeard self.old.1.seen.terms (front self.old.1) cursor.old.0.1 }
+        ensures behind { position_of cursor.old.0.1.role ≤ head_of self.old.1 }
+    {
+        self.desk.writer.tell_cursor(cursor);
     }
 
     /// What the phase has made.

@@ -105,6 +105,17 @@ pub(crate) fn enter<R: Wait, G: Gate>(
     }
 }
 
+/// Takes the next entry, and answers its position.
+fn take_next(cursor: &mut TableCursor) -> Option<u64>
+    ensures { (journal cursor.new.0 ≡ journal cursor.old.0)
+        × (cursor.new.1 ≡ cursor.old.1) }
+{
+    let mut words = Buf::new();
+    let at = cursor.next(&mut words)?;
+    cursor.advance();
+    Some(at)
+}
+
 impl Bench {
     /// A table without routes, whose cursor is closed; none if a port or the cursor isn't there.
     pub fn open(alloc: Global, cells: u32, start: u64) -> Result<Option<Bench>, OutOfMemory>
@@ -225,12 +236,19 @@ impl Bench {
         Some((at, self.first.seen()))
     }
 
+    /// Starts the cursor where it stands, and answers where. None if it is started already.
+    pub fn start_here(&mut self) -> Option<u64> {
+        if self.started {
+            return None;
+        }
+        self.cursor.start();
+        self.started = true;
+        Some(self.cursor.position())
+    }
+
     /// Takes the next entry, and answers its position.
     pub fn take(&mut self) -> Option<u64> {
-        let mut words = Buf::new();
-        let at = self.cursor.next(&mut words)?;
-        self.cursor.advance();
-        Some(at)
+        take_next(&mut self.cursor)
     }
 
     /// Takes the next entry, and answers its position and the record that it says.
@@ -283,6 +301,25 @@ impl Bench {
         }
         let chunk = self.table.feed(rt, &mut self.cursor, from, max)?;
         Ok(Some(chunk))
+    }
+
+    /// Closes the table and tells the cursor, which then takes up to three entries.
+    /// Answers the head that the cursor knows once it is told, and what it took.
+    pub fn take_closed<R: Wait>(self, rt: &R) -> (u64, [Option<u64>; 3]) {
+        let Bench {
+            table,
+            mut cursor,
+            ..
+        } = self;
+        let mut closing = table.close(rt);
+        closing.tell_cursor(&mut cursor);
+        let head = cursor.known();
+        let taken = [
+            take_next(&mut cursor),
+            take_next(&mut cursor),
+            take_next(&mut cursor),
+        ];
+        (head, taken)
     }
 
     /// Ends the phase.

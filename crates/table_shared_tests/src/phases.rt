@@ -60,6 +60,22 @@ fn a_phase_has_each_change_once(rt: HostRuntime) -> Result<(), Fail> {
     Ok(())
 }
 
+/// A cursor that is started where it stands takes an entry that was there already. Once it is told
+/// of the closed table it takes the others, and then none.
+#[test]
+fn a_cursor_takes_the_rest_of_a_closed_table(rt: HostRuntime) -> Result<(), Fail> {
+    let mut bench = opened(&rt, rt.alloc(), 4, 7)?;
+    for place in 1..4 {
+        let net = net(place)?;
+        assert!(rt; bench.first(&rt, rt.alloc(), &net, 100).is_ok());
+    }
+    assert_eq!(rt; bench.start_here(), Some(7));
+    assert_eq!(rt; bench.take(), Some(8));
+    let taken = bench.take_closed(&rt);
+    assert!(rt; taken == (10, [Some(9), Some(10), None]));
+    Ok(())
+}
+
 /// Three nets in parts of two rows.
 fn parts<R: Wait + Abort>(rt: &R, bench: &mut Bench) -> Result<(), Fail> {
     let third = net(3)?;
