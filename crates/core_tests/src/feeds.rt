@@ -52,7 +52,10 @@ struct Course {
     is_done: bool,
     is_empty: bool,
     is_settled_again: bool,
+    /// Before it goes down, and behind that.
+    is_up: [bool; 2],
     items: usize,
+    logged: usize,
 }
 
 fn observe(exporter: &mut Exporter<All>) -> Result<Course, Fail>
@@ -65,13 +68,16 @@ fn observe(exporter: &mut Exporter<All>) -> Result<Course, Fail>
     let is_empty = exporter.standing()?.is_empty();
     exporter.refresh()?;
     let is_settled_again = exporter.is_settled(0);
+    let was_up = exporter.is_up();
     exporter.down()?;
     Ok(Course {
         is_settled,
         is_done,
         is_empty,
         is_settled_again,
+        is_up: [was_up, exporter.is_up()],
         items: exporter.items().len(),
+        logged: exporter.log().len(),
     })
 }
 
@@ -88,7 +94,9 @@ fn a_channel_is_fed_refreshed_and_ended(rt: HostRuntime) -> Result<(), Fail> {
         is_done: true,
         is_empty: true,
         is_settled_again: false,
+        is_up: [true, false],
         items: 3,
+        logged: 3,
     };
     assert_eq!(rt; played(rt.alloc(), RandomState::new(&rt)?)?, expected);
     Ok(())

@@ -197,6 +197,20 @@ impl<J: Judge> Exporter<J> {
         self.log.as_slice()
     }
 
+    /// The same as it is held, for a snapshot.
+    pub fn log(&self) -> &Vec<LogItem>
+        ensures { result.now.items ≡ self.now.log }
+    {
+        &self.log
+    }
+
+    /// Whether the channel is up.
+    pub fn is_up(&self) -> bool
+        ensures { result ≡ is_open self.now.log }
+    {
+        self.up
+    }
+
     /// Whether a feed goes on, and from which net.
     pub fn feed_from(&self) -> FeedState
         ensures { result ≡ self.now.feed }
