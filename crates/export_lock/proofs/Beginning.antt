@@ -45,6 +45,7 @@ module _ {J : Type 0} (verdict : J → Net → Route → Verdict) where
     makers = b.makers;
     cursors = b.cursors;
     marked = ap without_sends b.log ∙ ap (λ es. items_in es ++ without_sends key.log) (sym b.unmarked);
+    log = ([], sym b.log);
     mode = b.mode;
     position = λ up. (b.position up).0 ∙ sym (b.position up).1;
     least = λ up. (let at = (b.position up).0 in omega (arith, at));

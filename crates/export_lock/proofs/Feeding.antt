@@ -166,6 +166,7 @@ module _ (rows_tell : (spec : ExportSpec) (history : List JEntry) (rows : List R
       makers = o.makers;
       cursors = o.cursors;
       marked = ap (λ z. without_sends (reverse z)) f.log ∙ o.marked;
+      log = (o.log.0, o.log.1 ∙ ap (λ z. reverse z) (sym f.log));
       mode = sym up ∙ ap is_open (sym f.log);
       position = λ is. f.position ∙ o.position up ∙ sym role;
       least = λ is. subst (λ z. key.table.1.start ≤ z) (sym f.position) (o.least up);

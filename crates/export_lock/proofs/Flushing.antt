@@ -34,7 +34,7 @@ module _ {J : Type 0} (verdict : J → Net → Route → Verdict) (done : List K
   module _ (e : State J) (told more : Option (List Sending)) (first : a.exporter.flushing ≡ false → AreStanding a.exporter.log a.exporter.left) where
     one_more : (x : Sending) → Flushes x a.exporter e → ((c : Course) → StandsFor verdict c a.exporter → StandsFor verdict c e) → IsDirection verdict (done ++ x.key ∷ []) key (record { exporter = e; cursor = a.cursor; marks = a.marks })
     one_more x f stands = record {
-      exporting = unmarked_on verdict key a e f.spec f.judge (λ no. absurd (let bad : true ≡ false = no in cc)) (ap (λ z. without_sends (reverse z)) f.log) (ap is_open f.log) f.position stands d.exporting;
+      exporting = unmarked_on verdict key a e f.spec f.judge (λ no. absurd (let bad : true ≡ false = no in cc)) (ap (λ z. without_sends (reverse z)) f.log) (ap is_open f.log) f.position ([], ap (λ z. reverse z) (sym f.log)) stands d.exporting;
       none = λ no. absurd (let bad : true ≡ false = sym f.flushing ∙ no in cc);
       stood = λ _.
           subst (λ log. AreStanding log ((done ++ x.key ∷ []) ++ e.left)) (sym f.log)

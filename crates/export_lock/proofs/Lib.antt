@@ -4,6 +4,7 @@ pub mod Told
 pub mod Marking
 pub mod Pushing
 pub mod Taking
+pub mod Reading
 pub mod Feeding
 pub mod Flushing
 pub mod Entering

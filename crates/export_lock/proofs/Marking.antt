@@ -70,6 +70,7 @@ module _ {J : Type 0} (verdict : J → Net → Route → Verdict) {every : Bool}
     makers = o.makers;
     cursors = o.cursors;
     marked = ap (λ z. without_sends (reverse z.log)) same ∙ o.marked ∙ ap (λ z. items_in z ++ without_sends key.log) (sym list);
+    log = (o.log.0, o.log.1 ∙ ap (λ z. reverse z.log) (sym same));
     mode = mode ∙ o.mode ∙ ap (λ z. is_open z.log) (sym same);
     position = λ is. let was = ap (λ z. is_open z.log) (sym same) ∙ is in ap (λ z. z.position) same ∙ o.position was ∙ sym (position was);
     least = λ is. subst (λ z. key.table.1.start ≤ z.position) (sym same) (o.least (ap (λ z. is_open z.log) (sym same) ∙ is));
@@ -101,6 +102,7 @@ module _ {J : Type 0} (verdict : J → Net → Route → Verdict) {every : Bool}
         ∙ ap (λ z. z ∷ (items_in (front a.marks.1) ++ without_sends key.log)) (sym back)
         ∙ ap (λ z. z ++ without_sends key.log) (sym (items_next (front a.marks.1) (mark_words x)))
         ∙ ap (λ z. items_in z ++ without_sends key.log) (sym list);
+    log = (x ∷ o.log.0, ap (λ z. x ∷ z) o.log.1 ∙ sym (reverse-append a.exporter.log (x ∷ [])) ∙ ap (λ z. reverse z) (sym log));
     mode = mode;
     position = position;
     least = least;

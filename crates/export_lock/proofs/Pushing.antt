@@ -1,5 +1,5 @@
 -- A push leaves what an export lock keeps.
-use Rattle.std.proofs.Common.{◌≡◌, ◌≤◌, List, [], ◌∷◌, Bool, true, false, not, Option, reverse, refl, sym, ap, subst, ◌∙◌}
+use Rattle.std.proofs.Common.{◌≡◌, ◌≤◌, List, [], ◌∷◌, Bool, true, false, not, Option, reverse, refl, sym, ap, subst, ◌∙◌, ◌++◌, append_assoc}
 use Rattle.std.specs.Prelude.{◌&&◌, IfOk, OnErr, OnOk, is_some}
 use Rattle.std.specs.declared.result.Result.{Result}
 use Rattle.std.specs.declared.result.Result.TheVariants.{Ok, Err}
@@ -14,6 +14,7 @@ use Rattle.export_core.specs.Standing.{is_open}
 use Rattle.export_core.specs.States.{StandsFor, State}
 use Rattle.export_core.specs.declared.exporter.Pushed.{Pushed}
 use Rattle.export_core.specs.declared.exporter.Pushed.TheVariants.{Nothing, Quiet, Sent}
+use Rattle.export_core.specs.declared.log.LogItem.{LogItem}
 use Rattle.export_core.specs.declared.log.LogItem.TheVariants as item
 use Rattle.export_core.specs.declared.log.Sending.{Sending}
 use Rattle.export_core.specs.declared.outlet.PushFault.{PushFault}
@@ -25,8 +26,9 @@ use Rattle.export_lock.specs.declared.state.ExportState.{ExportState}
 module _ {J : Type 0} (verdict : J → Net → Route → Verdict) {every : Bool} (key : ExportTerms) (a : ExportState J) (e : State J) where
   -- no mark was added
   pub unmarked_on : e.spec ≡ a.exporter.spec → e.judge ≡ a.exporter.judge → (every ≡ false → e.flushing ≡ false) → without_sends (reverse e.log) ≡ without_sends (reverse a.exporter.log) → is_open e.log ≡ is_open a.exporter.log → e.position ≡ a.exporter.position
+      → (more : List LogItem) × (more ++ reverse a.exporter.log ≡ reverse e.log)
       → ((c : Course) → StandsFor verdict c a.exporter → StandsFor verdict c e) → IsExporting verdict every key a → IsExporting verdict every key (record { exporter = e; cursor = a.cursor; marks = a.marks })
-  unmarked_on spec judge stays log open_is position stands o = record {
+  unmarked_on spec judge stays log open_is position grown stands o = record {
     spec = spec ∙ o.spec;
     filter = ap verdict judge ∙ o.filter;
     kind = o.kind;
@@ -39,6 +41,7 @@ module _ {J : Type 0} (verdict : J → Net → Route → Verdict) {every : Bool}
     makers = o.makers;
     cursors = o.cursors;
     marked = log ∙ o.marked;
+    log = (grown.0 ++ o.log.0, append_assoc grown.0 o.log.0 key.log ∙ ap (λ z. grown.0 ++ z) o.log.1 ∙ grown.1);
     mode = o.mode ∙ sym open_is;
     position = λ is. position ∙ o.position (sym open_is ∙ is);
     least = λ is. subst (λ z. key.table.1.start ≤ z) (sym position) (o.least (sym open_is ∙ is));
@@ -47,26 +50,35 @@ module _ {J : Type 0} (verdict : J → Net → Route → Verdict) {every : Bool}
 
   unchanged : e ≡ a.exporter → IsExporting verdict every key a → IsExporting verdict every key (record { exporter = e; cursor = a.cursor; marks = a.marks })
   unchanged same o = unmarked_on (ap (λ z. z.spec) same) (ap (λ z. z.judge) same) (λ f. ap (λ z. z.flushing) same ∙ o.stays f) (ap (λ z. without_sends (reverse z.log)) same) (ap (λ z. is_open z.log) same) (ap (λ z. z.position) same)
-      (λ c s. subst (StandsFor verdict c) (sym same) s) o
+      ([], ap (λ z. reverse z.log) (sym same)) (λ c s. subst (StandsFor verdict c) (sym same) s) o
 
   by_kind : (told more : Option (List Sending)) (p : Pushed) → Pushes verdict a.exporter e told more p → e.flushing ≡ false → ((c : Course) → StandsFor verdict c a.exporter → StandsFor verdict c e) → IsExporting verdict every key a
       → IsExporting verdict every key (record { exporter = e; cursor = a.cursor; marks = a.marks })
   by_kind told more Nothing did stays stands o = unchanged did.1 o
   by_kind told more Quiet did stays stands o =
       let q = did.2 in
-      unmarked_on q.pops.spec q.pops.judge (λ _. stays) (ap (λ z. without_sends (reverse z)) q.log) (ap is_open q.log) q.pops.position stands o
+      unmarked_on q.pops.spec q.pops.judge (λ _. stays) (ap (λ z. without_sends (reverse z)) q.log) (ap is_open q.log) q.pops.position ([], ap (λ z. reverse z) (sym q.log)) stands o
   by_kind told more Sent did stays stands o =
       let q = did.2 in
       let x : Sending = did.1 in
       unmarked_on q.pops.spec q.pops.judge (λ _. stays)
       (ap (λ z. without_sends (reverse z)) q.log ∙ ap without_sends (reverse-append a.exporter.log (item.Sent x ∷ [])))
       (ap is_open q.log ∙ ap (λ z. is_some (stretch z)) (reverse-append a.exporter.log (item.Sent x ∷ [])))
-      q.pops.position stands o
+      q.pops.position (item.Sent x ∷ [], sym (reverse-append a.exporter.log (item.Sent x ∷ [])) ∙ ap (λ z. reverse z) (sym q.log)) stands o
 
   pub pushed : (told more : Option (List Sending)) (r : Result Pushed PushFault) → IfOk r (Pushes verdict a.exporter e told more) → OnErr r ((e ≡ a.exporter) × (more ≡ told)) → OnOk r (e.flushing ≡ false)
       → OnOk r ((c : Course) → StandsFor verdict c a.exporter → StandsFor verdict c e) → IsExporting verdict every key a → IsExporting verdict every key (record { exporter = e; cursor = a.cursor; marks = a.marks })
   pushed told more (Ok p) did refused stays stands o = by_kind told more p did stays stands o
   pushed told more (Err f) did refused stays stands o = unchanged refused.0 o
+
+-- a feed goes on from where it did
+pub feed_stays : {J : Type 0} (verdict : J → Net → Route → Verdict) (a e : State J) (told more : Option (List Sending)) (r : Result Pushed PushFault) → IfOk r (Pushes verdict a e told more) → OnErr r ((e ≡ a) × (more ≡ told)) → e.feed ≡ a.feed
+feed_stays verdict a e told more (Ok p) did refused = by_push p did where
+  by_push : (p : Pushed) → Pushes verdict a e told more p → e.feed ≡ a.feed
+  by_push Nothing did = ap (λ z. z.feed) did.1
+  by_push Quiet did = did.2.pops.feed
+  by_push Sent did = did.2.pops.feed
+feed_stays verdict a e told more (Err f) did refused = ap (λ z. z.feed) refused.0
 
 -- nothing is withdrawn, before and then
 pub pushed_rests : {J : Type 0} (r : Result Pushed PushFault) (a : ExportState J) (e : State J) (told more : Option (List Sending)) → OnErr r ((e ≡ a.exporter) × (more ≡ told)) → OnOk r (e.flushing ≡ false) → a.exporter.flushing ≡ false

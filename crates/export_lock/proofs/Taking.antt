@@ -85,6 +85,7 @@ module _ (told : (spec : ExportSpec) (front : List JEntry) (e : JEntry) (back : 
           makers = o.makers;
           cursors = o.cursors;
           marked = ap (λ z. without_sends (reverse z)) t.log ∙ o.marked;
+          log = (o.log.0, o.log.1 ∙ ap (λ z. reverse z) (sym t.log));
           mode = started ∙ o.mode ∙ ap is_open (sym t.log);
           position = λ is. t.position ∙ sym position;
           least = λ is. (let now = t.position in omega (arith, least, now));

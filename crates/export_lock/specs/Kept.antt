@@ -1,12 +1,15 @@
 -- What an export lock keeps of its value (`IsExports`): the exporter stands for each history that
 -- begins with what the cursor has seen, so each key was read up to a position that the cursor has
 -- seen, and what was sent of it is of no later one (`IsRead`); the marks of its log are those of the
--- journal of marks, behind those of before; and the cursor is started while the channel is up.
--- Logs are read backwards, but for the exporter's own; entries are in their order.
+-- journal of marks, behind those of before, and the log begins with that of before; and the cursor
+-- is started while the channel is up.
+-- Logs are read backwards, but for the exporter's own, so a log that begins with another ends in it;
+-- entries are in their order.
 -- From: own.
 -- Example: behind an up at 4 the journal of marks has one entry more, and the cursor stands at 4.
 -- A net that a feed then reads at 6 is read up to 6, and what was sent of it is of 4, 5 or 6.
 use Rattle.std.specs.Prelude.{◌≡◌, ◌&&◌, not, ℕ, ◌+◌, ◌<◌, ◌≤◌, ◌^◌, Bool, true, false, List, ◌++◌, length, reverse, Some}
+use mathlib.Core.List.{IsPrefix}
 use Rattle.atomic_table.specs.Seated.{TableId}
 use Rattle.attrs.specs.declared.journal.JEntry.{JEntry}
 use Rattle.attrs.specs.declared.judge.Verdict.{Verdict}
@@ -17,11 +20,12 @@ use Rattle.export_core.specs.Logs.{account}
 use Rattle.export_core.specs.Standing.{is_open}
 use Rattle.export_core.specs.States.{StandsFor, reach_of}
 use Rattle.export_core.specs.declared.log.Key.{Key}
+use Rattle.export_core.specs.declared.log.LogItem.{LogItem}
 use Rattle.export_core.specs.declared.log.Sending.{Sending}
 use Rattle.jour_rule.specs.Moves.{position_of}
 use Rattle.jour_rule.specs.declared.views.Terms.{Terms}
 use Rattle.jour_rule.specs.declared.views.View.{View as Seat}
-use Rattle.jour.specs.Seats.{front, head_of, journal, number_of}
+use Rattle.jour.specs.Seats.{front, head_of, journal, known, number_of}
 use Rattle.core_machine.specs.Rules.{Fits, Signal}
 use Rattle.core_machine.specs.Signals.{without_sends}
 use Rattle.table_shared.specs.Opening.{TableOpening}
@@ -48,6 +52,16 @@ pub record LeavesFlush {J : Type 0} (old new : ExportState J) : Type 0 where
       old.exporter.flushing ≡ true
       → (new.exporter.log ≡ old.exporter.log) × (new.exporter.left ≡ old.exporter.left)
 
+-- A cursor went on in its journal, or stayed where it is. Where it knew of an entry behind its
+-- position it loaded no head.
+pub record ReadsOn (old new : (TableId × Seat TableOpening) × Bool) : Type 0 where
+  pub here : journal new.0 ≡ journal old.0
+  pub number : number_of new.0.1.role ≡ number_of old.0.1.role
+  pub mode : new.1 ≡ old.1
+  pub prefix : IsPrefix (front old.0.1) (front new.0.1)
+  pub above : known old.0.1 ≤ known new.0.1
+  pub sure : position_of old.0.1.role < known old.0.1 → known new.0.1 ≡ known old.0.1
+
 module _ {J : Type 0} (verdict : J → Net → Route → Verdict) where
   -- The exporter is that of a channel, which is a pipe's direction where `every` is true.
   pub record IsExporting (every : Bool) (key : ExportTerms) (state : ExportState J) : Type 0 where
@@ -67,6 +81,7 @@ module _ {J : Type 0} (verdict : J → Net → Route → Verdict) where
     pub marked :
         without_sends (reverse state.exporter.log)
         ≡ items_in (front state.marks.1) ++ without_sends key.log
+    pub log : (more : List LogItem) × (more ++ key.log ≡ reverse state.exporter.log)
     pub mode : state.cursor.1 ≡ is_open state.exporter.log
     pub position :
         is_open state.exporter.log ≡ true

@@ -38,6 +38,9 @@ impl<J: Judge> ExportState<J> {
             × (O.told outlet.new ≡ O.told outlet.old)) }
         ensures cause { IfErr result
             (λ fault. fault ≢ Memory → O.fault outlet.new ≡ Some fault) }
+        ensures cursor { self.new.cursor ≡ self.old.cursor }
+        ensures feed { self.new.exporter.feed ≡ self.old.exporter.feed }
+        ensures marks { self.new.marks ≡ self.old.marks }
     {
         if !self.is_running() {
             return Ok(Pushed::Nothing);

@@ -2,7 +2,7 @@
 ghost use Rattle.std.specs.Prelude.{◌≡◌, ◌+◌, false, true, IfOk};
 ghost use Rattle.jour_rule.specs.Moves.{position_of};
 ghost use Rattle.jour.specs.Seats.{known};
-ghost use Rattle.export_lock.specs.Kept.{GoesOn, IsHeld, LeavesFlush};
+ghost use Rattle.export_lock.specs.Kept.{GoesOn, IsHeld, LeavesFlush, ReadsOn};
 
 use crate::state::ExportState;
 use attrs::Judge;
@@ -26,6 +26,8 @@ impl<J: Judge> ExportState<J> {
         ensures none { IfOk result (λ took. took ≡ false
             → (self.new.exporter ≡ self.old.exporter) × (self.old.cursor.1 ≡ true
             → known self.new.cursor.0.1 ≡ position_of self.new.cursor.0.1.role)) }
+        ensures reads { ReadsOn self.old.cursor self.new.cursor }
+        ensures feed { self.new.exporter.feed ≡ self.old.exporter.feed }
         ensures log { self.new.exporter.log ≡ self.old.exporter.log }
         ensures marks { self.new.marks ≡ self.old.marks }
     {

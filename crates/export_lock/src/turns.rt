@@ -42,6 +42,9 @@ impl<J: Judge> PipeLane<J> {
             → (result.1 ≡ Ok Nothing) × (result.0.state ≡ self.state)
             × Rests self.port result.0.port }
         ensures refused { IfErr result.1 (Stops J.verdict sources.now self result.0) }
+        ensures cursor { result.0.state.cursor ≡ self.state.cursor }
+        ensures feed { result.0.state.exporter.feed ≡ self.state.exporter.feed }
+        ensures marks { result.0.state.marks ≡ self.state.marks }
     {
         a_port_alone_changes_its_sources();
         let PipeLane { mut state, port } = self;

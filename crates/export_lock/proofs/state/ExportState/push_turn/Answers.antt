@@ -1,5 +1,5 @@
 use Rattle.std.proofs.Common.{◌≡◌, ◌∙◌, sym, false, true}
-use Rattle.export_lock.proofs.Pushing.{as_was, pushed, pushed_rests, running}
+use Rattle.export_lock.proofs.Pushing.{as_was, feed_stays, pushed, pushed_rests, running}
 use Rattle.export_lock.proofs.state.ExportState.push_turn.Goals as goal
 
 pub push_one-requires-clause-stays : goal.push_one-requires-clause-stays
@@ -29,3 +29,7 @@ returns-clause-rests g c = λ rests. absurd (let e : false ≡ true = sym rests 
 
 pub returns-then-not-is_running-clause-pushes : goal.returns-then-not-is_running-clause-pushes
 returns-then-not-is_running-clause-pushes g c = λ runs. absurd (let e : false ≡ true = sym c.if-not-is_running.true ∙ c.is_running.ensures ∙ runs in cc)
+
+pub returns-clause-feed : goal.returns-clause-feed
+returns-clause-feed g c =
+    feed_stays g.J.Judge.verdict c.args.self.now.exporter c.push_one.new.self (g.O.Outlet.told c.args.outlet.now) (g.O.Outlet.told c.push_one.new.outlet) c.push_one.result c.push_one.ensures.pushes c.push_one.ensures.refused

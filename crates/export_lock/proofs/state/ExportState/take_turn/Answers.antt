@@ -10,6 +10,7 @@ use Rattle.jour.specs.Seats.{front}
 use Rattle.rec_words.specs.Entries.{Spells}
 use Rattle.export_lock.proofs.Taking.{taken_on}
 use Rattle.export_lock.proofs.Marking.{still_on}
+use Rattle.export_lock.proofs.Reading.{looks, moves_on, reads_none}
 use Rattle.export_lock.proofs.state.ExportState.take_turn.Goals as goal
 
 pub returns-in_default-clause-goes : goal.returns-in_default-clause-goes
@@ -71,3 +72,35 @@ returns-clause-log g c = c.in_ok-take.ensures.takes.log
 
 pub returns-in_err-take-clause-log : goal.returns-in_err-take-clause-log
 returns-in_err-take-clause-log g c = ap (λ z. z.log) c.in_err-take.ensures.refused
+
+pub returns-clause-feed : goal.returns-clause-feed
+returns-clause-feed g c = c.in_ok-take.ensures.takes.feed
+
+pub returns-in_err-take-clause-feed : goal.returns-in_err-take-clause-feed
+returns-in_err-take-clause-feed g c = ap (λ z. z.feed) c.in_err-take.ensures.refused
+
+pub returns-then-not-is_started-clause-reads : goal.returns-then-not-is_started-clause-reads
+returns-then-not-is_started-clause-reads g c = reads_none c.args.self.now.cursor
+
+pub returns-in_default-clause-reads : goal.returns-in_default-clause-reads
+returns-in_default-clause-reads g c =
+    let same = c.next.ensures.same in
+    looks c.args.self.now.cursor c.next.new.self same.0 same.1 same.3 same.4 c.next.ensures.known.0 (λ less. (c.next.ensures.sure less).2)
+
+pub returns-in_err-entry-clause-reads : goal.returns-in_err-entry-clause-reads
+returns-in_err-entry-clause-reads g c =
+    let same = c.next.ensures.same in
+    looks c.args.self.now.cursor c.next.new.self same.0 same.1 same.3 same.4 c.next.ensures.known.0 (λ less. (c.next.ensures.sure less).2)
+
+pub returns-in_err-take-clause-reads : goal.returns-in_err-take-clause-reads
+returns-in_err-take-clause-reads g c =
+    let same = c.next.ensures.same in
+    looks c.args.self.now.cursor c.next.new.self same.0 same.1 same.3 same.4 c.next.ensures.known.0 (λ less. (c.next.ensures.sure less).2)
+
+pub returns-clause-reads : goal.returns-clause-reads
+returns-clause-reads g c =
+    let same = c.next.ensures.same in
+    let past = c.advance.ensures.same in
+    moves_on c.args.self.now.cursor c.next.new.self c.advance.new.self
+    (looks c.args.self.now.cursor c.next.new.self same.0 same.1 same.3 same.4 c.next.ensures.known.0 (λ less. (c.next.ensures.sure less).2))
+    past.0 past.1 past.4 c.advance.ensures.prefix past.2
