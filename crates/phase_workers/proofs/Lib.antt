@@ -1,3 +1,3 @@
-mod Going
+pub mod Going
 mod Resting
 mod Reading

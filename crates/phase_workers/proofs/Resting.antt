@@ -35,6 +35,23 @@ feeding_is true false feed u f ends = ends
 feeding_is true true feed u f ends = absurd (let e : true ≡ false = f in cc)
 feeding_is false flushing feed u f ends = absurd (let e : false ≡ true = u in cc)
 
+not_fed : (up flushing : Bool) (feed : FeedState) → (up ≡ true → feed ≡ Done) → ((up && not flushing) && goes_on feed) ≡ false
+not_fed false flushing feed fed = refl
+not_fed true true feed fed = refl
+not_fed true false feed fed = ap goes_on (fed refl)
+
+-- no feed goes on of what is at rest
+pub rests_unfed : {J : Type 0} (state : ExportState J) → HasRested state → is_feeding state ≡ false
+rests_unfed state rests = not_fed state.cursor.1 state.exporter.flushing state.exporter.feed (λ up. (rests up).fed)
+
+-- and none begins by a turn that leaves the feed
+pub still_fed : {J : Type 0} (old new : ExportState J) → new.cursor.1 ≡ old.cursor.1 → new.exporter.flushing ≡ old.exporter.flushing → new.exporter.feed ≡ old.exporter.feed → is_feeding old ≡ false → is_feeding new ≡ false
+still_fed old new mode flushing feed none =
+    ap (λ (b : Bool). (b && not new.exporter.flushing) && goes_on new.exporter.feed) mode
+    ∙ ap (λ (b : Bool). (old.cursor.1 && not b) && goes_on new.exporter.feed) flushing
+    ∙ ap (λ (z : FeedState). (old.cursor.1 && not old.exporter.flushing) && goes_on z) feed
+    ∙ none
+
 module _ {J : Type 0} (verdict : J → Net → Route → Verdict) where
   pub rested : (old new : ExportState J) → IsOfKind verdict false old → GoesOn verdict old new → is_feeding old ≡ false → new.exporter ≡ old.exporter
       → (old.cursor.1 ≡ true → known new.cursor.0.1 ≡ position_of new.cursor.0.1.role) → (is_running new ≡ true → new.exporter.marks ≡ []) → HasRested new

@@ -2,6 +2,7 @@
 ghost use Rattle.std.specs.Prelude.{◌≡◌, false, true, IfOk};
 ghost use Rattle.export_core.specs.Calls.{IsAtRest};
 ghost use Rattle.jour.specs.Seats.{journal, known};
+ghost use Rattle.export_lock.specs.Feeds.{is_feeding};
 ghost use Rattle.export_lock.specs.Kept.{GoesOn, IsOfKind};
 
 use crate::turns::{Did, turn_channel};
@@ -28,6 +29,8 @@ pub fn settle<R: Wait, J: Judge>(
     ensures head { IfOk result (λ head. known state.new.cursor.0.1 ≡ head) }
     ensures rests { IfOk result (λ head. state.new.cursor.1 ≡ true
         → IsAtRest state.new.exporter head) }
+    ensures fed { IfOk result (λ _. is_feeding state.new ≡ false) }
+    ensures marks { state.new.marks ≡ state.old.marks }
 {
     for _ in rt.forever() {
         if let Did::Nothing = turn_channel(alloc, rt, table, state)? {

@@ -2,7 +2,7 @@
 ghost use Rattle.std.specs.Prelude.{◌≡◌, false, IfOk};
 ghost use Rattle.jour.specs.Seats.{journal};
 ghost use Rattle.export_lock.specs.Feeds.{is_feeding};
-ghost use Rattle.export_lock.specs.Kept.{GoesOn, IsHeld, IsOfKind};
+ghost use Rattle.export_lock.specs.Kept.{GoesOn, IsHeld, IsOfKind, LeavesFlush, ReadsOn};
 ghost use Rattle.phase_workers.specs.Inside.{DoesPush};
 ghost use Rattle.phase_workers.specs.Turns.{Does};
 
@@ -45,6 +45,9 @@ fn push<J: Judge>(state: &mut ExportState<J>) -> Result<Did, OutOfMemory>
     ensures goes { GoesOn J.verdict state.old state.new }
     ensures did { IfOk result (DoesPush J.verdict state.old state.new) }
     ensures cursor { state.new.cursor ≡ state.old.cursor }
+    ensures feed { state.new.exporter.feed ≡ state.old.exporter.feed }
+    ensures flush { LeavesFlush state.old state.new }
+    ensures marks { state.new.marks ≡ state.old.marks }
 {
     if !state.is_running() {
         return Ok(Did::Nothing);
@@ -58,12 +61,18 @@ fn push<J: Judge>(state: &mut ExportState<J>) -> Result<Did, OutOfMemory>
     }
 }
 
-/// Takes the next entry, or pushes where there is none.
-fn take_or_push<J: Judge>(alloc: Global, state: &mut ExportState<J>) -> Result<Did, OutOfMemory>
+/// A turn of a channel that is not being fed, and what it did: it takes the next entry, and where
+/// there is none it pushes the first key that is marked. It wants no table, so it serves a channel
+/// whose table is closed too. Where memory is refused, what the turn was to do is left for the next.
+pub fn read_or_push<J: Judge>(alloc: Global, state: &mut ExportState<J>) -> Result<Did, OutOfMemory>
     requires kind { IsOfKind J.verdict false state.old }
     requires fed { is_feeding state.old ≡ false }
     ensures goes { GoesOn J.verdict state.old state.new }
     ensures did { IfOk result (Does J.verdict state.old state.new) }
+    ensures fed { is_feeding state.new ≡ false }
+    ensures feed { state.new.exporter.feed ≡ state.old.exporter.feed }
+    ensures reads { ReadsOn state.old.cursor state.new.cursor }
+    ensures marks { state.new.marks ≡ state.old.marks }
 {
     if state.take_turn(alloc)? {
         return Ok(Did::Took);
@@ -85,9 +94,10 @@ pub fn turn_channel<R: Wait, J: Judge>(
     requires here { journal state.old.cursor.0 ≡ table.now }
     ensures goes { GoesOn J.verdict state.old state.new }
     ensures did { IfOk result (Does J.verdict state.old state.new) }
+    ensures marks { state.new.marks ≡ state.old.marks }
 {
     if !is_feeding(state) {
-        return take_or_push(alloc, state);
+        return read_or_push(alloc, state);
     }
     state.feed_turn(rt, table, 256)?;
     Ok(Did::Fed)
