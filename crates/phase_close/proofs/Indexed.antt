@@ -12,7 +12,7 @@ use Rattle.jour_rule.specs.declared.views.View.{View as Seat}
 use Rattle.jour.specs.Seats.{front, journal}
 use Rattle.table_shared.specs.Opening.{TableOpening}
 use Rattle.phase_room.specs.Sessions.{IsChannelOf}
-use Rattle.phase_close.specs.Closed.{EndsOver, IsSessionEnded, SessionTerms, TableList, all_lists, list_of}
+use Rattle.phase_close.specs.Closed.{AreHeard, EndsOver, IsSessionEnded, SessionTerms, TableList, all_lists, list_of}
 use Rattle.phase_close.specs.Left.{IsSessionLeft}
 use Rattle.phase_close.specs.declared.seats.SessionEnded.{SessionEnded}
 use Rattle.phase_close.specs.declared.session.SessionLeft.{SessionLeft}
@@ -35,7 +35,8 @@ pub list_within : (xs : List Closed) (k : ℕ) (l : TableList) → slice_get (al
 list_within xs k l at = let inside = get_within (all_lists xs) k l at in let many = length-map xs list_of in omega (arith, inside, many)
 
 module _ {J : Type 0} (verdict : J → Net → Route → Verdict) (xs : List Closed) (x : Closed) (left : SessionLeft J) (ended : SessionEnded J) (at : slice_get xs left.table ≡ Some x) (table : ended.table ≡ left.table)
-    (done : (key : SessionTerms) → IsSessionLeft verdict key.protocol key.channel key.hands left → IsChannelOf key.protocol key.channel → key.protocol.port ≡ journal x → IsSessionEnded verdict key (front x.1) ended) where
+    (done : (key : SessionTerms) → IsSessionLeft verdict key.protocol key.channel key.hands left → IsChannelOf key.protocol key.channel → key.protocol.port ≡ journal x → IsSessionEnded verdict key (front x.1) ended)
+    (heard : AreHeard x.1.seen.terms (front x.1) left.channel ended.exporter) where
   pub ends_at : EndsOver verdict (all_lists xs) left ended
   ends_at = (
     table,
@@ -46,4 +47,5 @@ module _ {J : Type 0} (verdict : J → Net → Route → Verdict) (xs : List Clo
           there = ap (slice_get (all_lists xs)) table ∙ e.there;
           session = subst (λ z. IsSessionEnded verdict key z ended) (sym (ap (λ (z : TableList). z.1) same)) (done key e.left_is e.channel_is (ap (λ (z : TableList). z.0) same));
         },
+    λ l there. subst (λ (z : TableList). AreHeard z.0.1 z.1 left.channel ended.exporter) (get_one (all_lists xs) left.table (list_of x) l (get_map list_of xs left.table x at) there) heard,
   )

@@ -49,6 +49,7 @@ module _ {J : Type 0} (verdict : J → Net → Route → Verdict) (key : ImportT
             over = i.over;
           };
           importer_is = i.importer;
+          family = i.family;
           port_is = i.port;
           port_number = i.port_number;
           says = i.says;

@@ -21,6 +21,7 @@ use Rattle.table_shared.specs.Opening.{TableOpening}
 use Rattle.table_shared.specs.Phases.{IsHeard, IsRetired as IsPortRetired}
 use Rattle.phase_legal.specs.Shown.{HandView}
 use Rattle.import_lock.specs.Terms.{ImportTerms}
+use Rattle.export_lock.specs.Kept.{GoesOn}
 use Rattle.export_lock.specs.Terms.{ExportTerms}
 use Rattle.export_lock.specs.declared.state.ExportState.{ExportState}
 use Rattle.phase_room.specs.Sessions.{IsChannelOf}
@@ -54,6 +55,19 @@ AreHeard terms entries (Some state) (Some exporter) =
 AreHeard terms entries _ _ = ⊥
 
 module _ {J : Type 0} (verdict : J → Net → Route → Verdict) where
+  abbrev pub AreLater : Option (ExportState J) → Option (ExportState J) → Type 0
+  AreLater None None = ⊤
+  AreLater (Some old) (Some new) = GoesOn verdict old new × (new.marks ≡ old.marks)
+  AreLater _ _ = ⊥
+
+  -- a session whose channel has gone on by turns that leave its marks
+  pub record IsLater (old new : SessionLeft J) : Type 0 where
+    pub table : new.table ≡ old.table
+    pub importer : new.importer ≡ old.importer
+    pub ops : new.ops ≡ old.ops
+    pub port : new.port ≡ old.port
+    pub channel : AreLater old.channel new.channel
+
   pub record IsChannelEnded
       (key : ImportTerms) (list : List Entry) (made : List (ℕ × Change)) (entries : List Entry)
       (channel : ExportTerms) (exporter : State J) : Type 0 where
@@ -94,8 +108,10 @@ module _ {J : Type 0} (verdict : J → Net → Route → Verdict) where
     pub there : slice_get lists ended.table ≡ Some (key.protocol.port, entries)
     pub session : IsSessionEnded key entries ended
 
-  -- what was left has ended
+  -- what was left has ended, with its channel's exporter as it was
   abbrev pub EndsOver : List TableList → SessionLeft J → SessionEnded J → Type 0
   EndsOver lists left ended =
       (ended.table ≡ left.table)
       × ((key : SessionTerms) → IsEnding lists key left → IsEndedOver lists key ended)
+      × ((l : TableList) → slice_get lists left.table ≡ Some l
+      → AreHeard l.0.1 l.1 left.channel ended.exporter)

@@ -18,6 +18,7 @@ use Rattle.import_core.specs.Importers.{Importing}
 use Rattle.jour_rule.specs.declared.views.Entry.{Entry}
 use Rattle.jour_rule.specs.declared.views.View.{View as Seat}
 use Rattle.jour.specs.Seats.{front, journal, number_of, own}
+use Rattle.core_setup.specs.Announced.{IsOfFamily}
 use Rattle.core_setup.specs.Reports.{dones}
 use Rattle.core_setup.specs.Setup.{Source}
 use Rattle.phase_legal.specs.Changes.{AreMade, changes_in, given}
@@ -78,6 +79,7 @@ module _ {J : Type 0} (verdict : J → Net → Route → Verdict) where
     pub terms : AreTerms key source
     pub turns : AreAllTurns key list hands ops
     pub importer_is : IsImporter verdict source (ops_told key list ++ past_ops key) importer
+    pub family : AllByRecursion (IsOfFamily key.port.1.opening.family) (ops_told key list)
     pub port_is : journal port ≡ key.port
     pub port_number : number_of port.1.role ≡ key.port_number
     pub says : AreMade (own port.1) made

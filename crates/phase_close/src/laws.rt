@@ -30,7 +30,7 @@ ghost use Rattle.export_lock.specs.declared.state.ExportState.{ExportState};
 ghost use Rattle.phase_ends.specs.Leaves.{IsMarked, MakesAll};
 ghost use Rattle.phase_room.specs.Sessions.{IsRoom};
 ghost use Rattle.phase_room.specs.declared.room.Room.{Room as RoomView};
-ghost use Rattle.phase_close.specs.Closed.{IsSessionEnded, SessionTerms};
+ghost use Rattle.phase_close.specs.Closed.{IsEnding, IsLater, IsSessionEnded, SessionTerms, TableList};
 ghost use Rattle.phase_close.specs.Left.{AreAllTurns, IsChannelLeft, IsImportLeft};
 ghost use Rattle.phase_close.specs.Rooms.{AreHandsOf, AreSessionsLeft, HandsView};
 ghost use Rattle.phase_close.specs.Turned.{AreTurned};
@@ -113,6 +113,16 @@ pub fn later_turns_keep_marks<J: Judge>()
         → IsChannelLeft J.verdict key list made channel old → GoesOn J.verdict old new
         → without_sends (reverse new.exporter.log) ≡ without_sends (reverse old.exporter.log)
         → IsChannelLeft J.verdict key list made channel new }
+{}
+
+/// A session whose channel has gone on, by turns that leave its marks, can be ended as before.
+pub fn later_sessions_can_end<J: Judge>()
+    ensures over { (tables : List (TableId × Terms TableOpening)) (key : SessionTerms)
+        (old new : SessionLeftView J) → IsLater J.verdict old new
+        → IsOver J.verdict tables key old → IsOver J.verdict tables key new }
+    ensures ending { (lists : List TableList) (key : SessionTerms) (old new : SessionLeftView J)
+        → IsLater J.verdict old new
+        → IsEnding J.verdict lists key old → IsEnding J.verdict lists key new }
 {}
 
 /// Each table of a room that has ended has records of its entries, which each actor's pass has seen a

@@ -74,6 +74,8 @@ pub(crate) fn end_seats<J: Judge + Drop>(
     ensures same { (journal closing.new ≡ journal closing.old)
         × (front closing.new.1 ≡ front closing.old.1) }
     ensures table { result.table ≡ session.table }
+    ensures heard { AreHeard closing.old.1.seen.terms (front closing.old.1) session.channel
+        result.exporter }
     ensures ended { (key : SessionTerms)
         → IsSessionLeft J.verdict key.protocol key.channel key.hands session
         → IsChannelOf key.protocol key.channel → key.protocol.port ≡ journal closing.old
