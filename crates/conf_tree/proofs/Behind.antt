@@ -99,7 +99,7 @@ whole_behind k t rest fits levels stops =
 
 -- ---- nothing but a semicolon goes on with a statement, and none begins with one
 
-implied : (a b : Bool) → (not a || b) ≡ true → a ≡ true → b ≡ true
+pub implied : (a b : Bool) → (not a || b) ≡ true → a ≡ true → b ≡ true
 implied true b e h = e
 implied false b e h = absurd cc
 
@@ -109,7 +109,7 @@ goes_on k = implied _ _ (all_in (λ j. not (more after Epsilon j || more after s
 no_semicolon : (k : Kind) → first_set config k ≡ true → not (symbol symbols.Semicolon k) ≡ true
 no_semicolon k = implied _ _ (all_in (λ j. not (first_set config j) || not (symbol symbols.Semicolon j)) k kinds (is_kind k) refl)
 
-not_is : (b : Bool) → not b ≡ true → b ≡ false
+pub not_is : (b : Bool) → not b ≡ true → b ≡ false
 not_is true e = absurd cc
 not_is false e = refl
 
@@ -218,7 +218,7 @@ no_words_end g w e = omega (arith, ap (λ (u : List Word). length u) e, length-a
 nullable_by : (f : Form) (t : ParseTree) → Solid f → DerivesLongest rule t f → yield t ≡ [] → nullable f ≡ true
 nullable_by f t solid fits none = subst (λ (u : List Word). Front f u) none (fits_front rule t f solid fits)
 
-ends_so : (t : ParseTree) (f : Form) → Solid f → DerivesLongest rule t f → (g : List Word) (w : Word) → yield t ≡ g ++ w ∷ [] → ends f (kind_of w) ≡ true
+pub ends_so : (t : ParseTree) (f : Form) → Solid f → DerivesLongest rule t f → (g : List Word) (w : Word) → yield t ≡ g ++ w ∷ [] → ends f (kind_of w) ≡ true
 ends_so (Leaf v) (Terminal p) solid fits g w e = ap (λ (u : Word). p (kind_of u)) (sym (last_one [] g v w e)) ∙ fits
 ends_so NoWords Epsilon solid fits g w e = absurd (no_words_end g w e)
 ends_so (Pair a b) (Seq f h) solid fits g w e = elim (in_second (yield a) (yield b) g w e) [

@@ -1,3 +1,4 @@
+pub mod Adjacent
 pub mod Behind
 pub mod BgpSteps
 pub mod ChannelSteps
@@ -6,6 +7,7 @@ pub mod FunctionSteps
 pub mod Known
 pub mod LastStatement
 pub mod LastWord
+pub mod Never
 pub mod OneOf
 pub mod OptionSteps
 pub mod PlaceSteps

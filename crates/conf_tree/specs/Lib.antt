@@ -5,3 +5,4 @@ pub mod Marks
 pub mod Sentence
 pub mod Position
 pub mod Read
+pub mod Adjacent

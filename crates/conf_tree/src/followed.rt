@@ -2,6 +2,7 @@
 
 ghost use Rattle.conf_syntax.specs.Syntax.{config};
 
+use crate::apart::is_apart;
 use crate::config::config;
 use bits_ip::OutOfMemory;
 use conf_lex::{Refusal, Word};
@@ -14,6 +15,9 @@ impl Sentences for Configurations {
     ghost form = { config };
 
     fn is_begun(alloc: Global, words: &[Word]) -> Result<bool, OutOfMemory> {
+        if is_apart(words) {
+            return Ok(false);
+        }
         let mut unread = 0;
         match config(alloc, words, LEVELS, &mut unread) {
             Ok(_) => Ok(true),

@@ -8,6 +8,7 @@
 //! is refused of names and values (conf_rules).
 #![tactic(auto)]
 
+mod apart;
 mod bgp;
 mod channel;
 mod config;

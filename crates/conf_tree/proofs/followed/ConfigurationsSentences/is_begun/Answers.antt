@@ -1,7 +1,11 @@
 use Rattle.std.proofs.Common.{refl}
+use Rattle.std.proofs.lemmas.Bool.{false≢true}
 use Rattle.conf_tree.proofs.Whole.{got_can, bad_can, deep_can}
 use Rattle.conf_tree.proofs.followed.ConfigurationsSentences.is_begun.Goals as goal
 use Rattle.conf_tree.proofs.followed.ConfigurationsSentences.is_begun.Goals.{in-Ok, in-Err-Memory, in-Err-Bad, in-Err-TooDeep}
+
+pub returns-then-is_apart : goal.returns-then-is_apart
+returns-then-is_apart c = (λ yes. absurd (false≢true yes), λ begun. absurd (c.is_apart.ensures c.if-is_apart.true begun))
 
 pub returns : goal.returns
 returns c =
