@@ -1,5 +1,5 @@
 -- What a protocol's part gives as a phase begins, and what its lock then says of its hands.
-use Rattle.std.proofs.Common.{◌≡◌, ℕ, ◌+◌, [], List, Option, ap, subst, sym}
+use Rattle.std.proofs.Common.{◌≡◌, ℕ, ◌+◌, [], List, Option, ap, subst, sym, ◌∙◌}
 use Rattle.std.specs.Prelude.{IfSome}
 use Rattle.atomic_table.specs.Seated.{TableId}
 use Rattle.attrs.specs.declared.judge.Verdict.{Verdict}
@@ -7,7 +7,7 @@ use Rattle.attrs.specs.declared.route.Route.{Route}
 use Rattle.bits_ip.specs.Prefix.{Net}
 use Rattle.jour_rule.specs.declared.views.Terms.{Terms}
 use Rattle.jour_rule.specs.declared.views.View.{View as Seat}
-use Rattle.jour.specs.Seats.{AreMakers, front, journal}
+use Rattle.jour.specs.Seats.{AreMakers, front, journal, number_of}
 use Rattle.table_shared.specs.Opening.{TableOpening}
 use Rattle.import_lock.specs.Begun.{IsUnused}
 use Rattle.import_lock.specs.Terms.{ImportTerms, PhaseTerms}
@@ -27,3 +27,10 @@ part_can_import verdict phase stood here part p hands turns stamp terms many unt
 
 pub hands_given : (key : ImportTerms) (phase : PhaseTerms) (number : ℕ) (port : TableId × Seat TableOpening) (turns : TableId × Seat ℕ) (stamp : Option (TableId × Seat ℕ)) (hands : List (TableId × Seat ℕ)) → key ≡ import_terms phase number port turns stamp → AreMakers (journal turns) hands → AreMakers key.turns hands
 hands_given key phase number port turns stamp hands e are = subst (λ z. AreMakers z hands) (sym (ap (λ (z : ImportTerms). z.turns) e)) are
+
+pub new_terms : (key : ImportTerms) (phase : PhaseTerms) (number hands : ℕ) (port : TableId × Seat TableOpening) (turns : TableId × Seat ℕ) (stamp : Option (TableId × Seat ℕ)) → key ≡ import_terms phase number port turns stamp → number_of port.1.role ≡ number → turns.1.seen.terms ≡ turns_terms hands → hands ≡ phase.starter + 1
+    → (key.port_number ≡ number) × (key.turns.1 ≡ turns_terms (phase.starter + 1))
+new_terms key phase number hands port turns stamp e is terms many = (
+  ap (λ (z : ImportTerms). z.port_number) e ∙ is,
+  ap (λ (z : ImportTerms). z.turns.1) e ∙ terms ∙ ap turns_terms many,
+)

@@ -12,10 +12,11 @@ use Rattle.jour_rule.specs.declared.views.View.{View as Seat}
 use Rattle.jour.specs.Seats.{journal}
 use Rattle.phase_legal.specs.Shown.{AreBeside}
 use Rattle.table_shared.specs.Opening.{TableOpening}
-use Rattle.phase_room.specs.Entering.{StandsIn}
+use Rattle.phase_room.specs.Entering.{IsNewSession, StandsIn}
 use Rattle.phase_room.specs.Opened.{IsPortOf}
 use Rattle.phase_room.specs.Parts.{IsProtocolPart}
 use Rattle.phase_room.specs.Stands.{StandsSource}
+use Rattle.phase_room.specs.declared.session.Session.{Session}
 
 module _ {J : Type 0} (verdict : J → Net → Route → Verdict) (phase : PhaseTerms) (tables : List (TableId × Terms TableOpening)) (number home : ℕ) (importer : Importing J) (s : StandsIn verdict phase tables number home importer)
     (ports : List (TableId × Seat TableOpening)) (are : AreBeside (IsPortOf number) tables ports) (port : TableId × Seat TableOpening) (at : slice_get ports home ≡ Some port) where
@@ -35,3 +36,7 @@ module _ {J : Type 0} (verdict : J → Net → Route → Verdict) (phase : Phase
 
   pub table_of : slice_get tables home ≡ Some (journal port)
   table_of = s.here_is ∙ ap Some (sym port_is.0)
+
+-- a session that was added to those of before
+pub new_one : {J P : Type 0} (terms : P → PhaseTerms) (starter home : ℕ) (session : Session J P) (n m : ℕ) → n ≡ m → IsNewSession terms starter n home session → IsNewSession terms starter m home session
+new_one terms starter home session n m e is = record { table = is.table; port = is.port ∙ e; turns = is.turns }

@@ -1,5 +1,5 @@
 //! Sessions as a phase begins.
-ghost use Rattle.std.specs.Prelude.{◌≡◌, ◌+◌, ◌≤◌, ℕ, List, Some, slice_get, vec_len, IfOk, IfSome};
+ghost use Rattle.std.specs.Prelude.{◌≡◌, ◌+◌, ◌≤◌, ℕ, List, None, Some, slice_get, vec_len, IfOk, IfSome};
 ghost use Rattle.atomic_table.specs.Seated.{TableId};
 ghost use Rattle.jour_rule.specs.declared.views.Terms.{Terms};
 ghost use Rattle.jour_rule.specs.declared.views.View.{View as Seat};
@@ -7,6 +7,8 @@ ghost use Rattle.jour.specs.Seats.{AreMakers, journal};
 ghost use Rattle.table_shared.specs.Opening.{TableOpening};
 ghost use Rattle.import_lock.specs.Begun.{IsUnused};
 ghost use Rattle.import_lock.specs.Locks.{terms_of};
+ghost use Rattle.phase_room.specs.Entering.{IsNewChannel, IsNewSession};
+ghost use Rattle.phase_room.specs.Journals.{turns_terms};
 ghost use Rattle.phase_room.specs.Locks.{import_terms};
 ghost use Rattle.phase_room.specs.Parts.{IsChannelPart, IsProtocolPart};
 ghost use Rattle.phase_room.specs.Rooms.{TableTerms};
@@ -38,7 +40,8 @@ fn begin_import<J: Judge + Drop, P: Phase>(
     ensures { IfOk result (λ made. (turns : TableId × Seat ℕ)
         × (terms_of P.terms made.0.1
         ≡ import_terms (P.terms played.now) part.number part.port turns stamp)
-        × (vec_len made.1 ≡ hands) × AreMakers (journal turns) made.1.items) }
+        × (vec_len made.1 ≡ hands) × AreMakers (journal turns) made.1.items
+        × (turns.1.seen.terms ≡ turns_terms hands)) }
 {
     let ProtocolPart {
         number,
@@ -68,6 +71,9 @@ pub fn begin_static<J: Judge + Drop, P: Phase + Sends>(
         (protocol_terms P.terms made.0) (channel_terms P.exports made.0)) }
     ensures hands { IfOk result (λ made. (vec_len made.1 ≡ hands)
         × AreMakers (protocol_terms P.terms made.0).turns made.1.items) }
+    ensures new { IfOk result (λ made.
+        IsNewSession P.terms (P.terms played.now).starter part.number part.table made.0
+        × (channel_terms P.exports made.0 ≡ None)) }
 {
     let table = part.table;
     let (import, made) = begin_import(alloc, played, hands, part, None)?;
@@ -104,6 +110,10 @@ pub fn begin_neighbour<J: Judge + Drop, P: Phase + Sends>(
         (protocol_terms P.terms made.0) (channel_terms P.exports made.0)) }
     ensures hands { IfOk result (λ made. (vec_len made.1 ≡ hands)
         × AreMakers (protocol_terms P.terms made.0).turns made.1.items) }
+    ensures new { IfOk result (λ made.
+        IsNewSession P.terms (P.terms played.now).starter part.number part.table made.0
+        × IsNewChannel (P.exports played.now) before.now.items channel
+        (channel_terms P.exports made.0)) }
 {
     let ChannelPart {
         number,

@@ -1,14 +1,16 @@
 //! How protocols enter a room as a phase begins.
-ghost use Rattle.std.specs.Prelude.{◌≡◌, ◌+◌, ◌≤◌, ◌<◌, ◌^◌, ℕ, Some, length, slice_get, vec_len, OnOk};
+ghost use Rattle.std.specs.Prelude.{◌≡◌, ◌+◌, ◌≤◌, ◌<◌, ◌^◌, ◌++◌, ◌∷◌, ℕ, [], None, Some, length, slice_get, vec_len, OnOk};
 ghost use Rattle.atomic_table.specs.Seated.{TableId};
 ghost use Rattle.jour_rule.specs.declared.views.Terms.{Terms};
 ghost use Rattle.core_setup.specs.Setup.{Source};
 ghost use Rattle.phase_legal.specs.Shown.{AreBeside};
 ghost use Rattle.table_shared.specs.Opening.{TableOpening};
 ghost use Rattle.phase_room.specs.Begun.{IsBegun};
-ghost use Rattle.phase_room.specs.Entering.{StandsIn};
+ghost use Rattle.phase_room.specs.Entering.{IsNewChannel, IsNewSession, StandsIn};
 ghost use Rattle.phase_room.specs.Opened.{IsPortOf};
 ghost use Rattle.phase_room.specs.Parts.{IsChannelPart};
+ghost use Rattle.phase_room.specs.Sessions.{channel_terms};
+ghost use Rattle.phase_room.specs.declared.session.Session.{Session as SessionView};
 
 use crate::begin::{begin_neighbour, begin_static};
 use crate::begun::Begun;
@@ -55,6 +57,11 @@ impl<J: Judge + Drop, P: Phase + Sends> Begun<J, P> {
             × (length self.new.hands.items ≡ length self.old.hands.items)) }
         ensures count { OnOk result (length self.new.room.sessions.items
             ≡ length self.old.room.sessions.items + 1) }
+        ensures added { OnOk result ((session : SessionView J P)
+            × (self.new.room.sessions.items ≡ self.old.room.sessions.items ++ session ∷ [])
+            × IsNewSession P.terms (P.terms played.now).starter
+            (length self.old.room.sessions.items) table session
+            × (channel_terms P.exports session ≡ None)) }
     {
         let part = ProtocolPart {
             number: self.room.sessions.len() as u32,
@@ -95,6 +102,12 @@ impl<J: Judge + Drop, P: Phase + Sends> Begun<J, P> {
             × (length self.new.hands.items ≡ length self.old.hands.items)) }
         ensures count { OnOk result (length self.new.room.sessions.items
             ≡ length self.old.room.sessions.items + 1) }
+        ensures added { OnOk result ((session : SessionView J P)
+            × (self.new.room.sessions.items ≡ self.old.room.sessions.items ++ session ∷ [])
+            × IsNewSession P.terms (P.terms played.now).starter
+            (length self.old.room.sessions.items) table session
+            × IsNewChannel (P.exports played.now) before.now.items channel
+            (channel_terms P.exports session)) }
     {
         let part = ProtocolPart {
             number: self.room.sessions.len() as u32,

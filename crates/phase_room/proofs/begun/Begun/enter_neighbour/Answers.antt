@@ -4,7 +4,7 @@ use Rattle.std.proofs.lemmas.Result.{on_ok_weaker}
 use Rattle.phase_room.specs.Parts.{IsChannelPart}
 use Rattle.phase_room.specs.Sessions.{IsSession, channel_terms, protocol_terms}
 use Rattle.phase_room.proofs.Dealing.{longer_by_one}
-use Rattle.phase_room.proofs.Entering.{is_part, table_of}
+use Rattle.phase_room.proofs.Entering.{is_part, new_one, table_of}
 use Rattle.phase_room.proofs.begun.Begun.enter_neighbour.Goals as goal
 
 pub begin_neighbour-requires-clause-parts : goal.begin_neighbour-requires-clause-parts
@@ -33,3 +33,11 @@ pub returns-clause-count : goal.returns-clause-count
 returns-clause-count g c =
     let old = c.args.self.now.room.sessions.items in
     on_ok_weaker c.add.result (λ e. longer_by_one old c.add.new.self.room.sessions.items c.in_ok-session.session (length old) refl e) c.add.ensures.added
+
+pub returns-clause-added : goal.returns-clause-added
+returns-clause-added g c =
+    let session = c.in_ok-session.session in
+    let new = c.in_ok-session.ensures.new in
+    let starter = (g.P.Phase.terms c.args.played.now).starter in
+    let sessions = c.args.self.now.room.sessions in
+    on_ok_weaker c.add.result (λ e. (session, e, new_one g.P.Phase.terms starter c.args.table session c.len.result (length sessions.items) (c.len.ensures ∙ sessions.ok.0) new.0, new.1)) c.add.ensures.added
