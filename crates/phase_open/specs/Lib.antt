@@ -1,0 +1,4 @@
+pub mod Standing
+pub mod Opening
+pub mod Lists
+pub mod Laid
