@@ -1,0 +1,3 @@
+mod Turning
+mod Sessions
+mod Synced
