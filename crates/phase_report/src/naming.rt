@@ -1,0 +1,47 @@
+//! Names by number.
+ghost use Rattle.std.specs.Prelude.{◌≡◌, IfOk, slice_get};
+ghost use Rattle.phase_report.specs.Inside.{name_of, name_or_none};
+
+use attrs::Seq;
+use bits_ip::OutOfMemory;
+use script_lines::Name;
+use std::alloc::Global;
+use sys_run::TableParts;
+
+/// A copy of the name of this number, which is empty where there is none.
+pub(crate) fn copy_name(
+    alloc: Global,
+    names: &[Seq<u8>],
+    number: usize,
+) -> Result<Seq<u8>, OutOfMemory>
+    ensures { IfOk result (λ name. name ≡ name_or_none (slice_get names.now number)) }
+{
+    match names.get(number) {
+        Some(name) => Ok(Seq::from_vec(Vec::from_slice(alloc, name.as_slice())?)),
+        None => Ok(Seq::new(alloc)),
+    }
+}
+
+/// The same of the table of this number.
+pub(crate) fn copy_table_name(
+    alloc: Global,
+    tables: &[TableParts],
+    number: usize,
+) -> Result<Seq<u8>, OutOfMemory>
+    ensures { IfOk result (λ name. name ≡ name_of (slice_get tables.now number)) }
+{
+    match tables.get(number) {
+        Some(table) => Ok(Seq::from_vec(Vec::from_slice(alloc, table.name.as_slice())?)),
+        None => Ok(Seq::new(alloc)),
+    }
+}
+
+/// The name of the actor of this number, which is empty where there is none.
+pub(crate) fn actor_name(actors: &[Name], number: usize) -> &[u8]
+    ensures { result.now ≡ name_or_none (slice_get actors.now number) }
+{
+    match actors.get(number) {
+        Some(actor) => actor.as_slice(),
+        None => &[],
+    }
+}
