@@ -1,5 +1,5 @@
 //! The room of a phase is played.
-ghost use Rattle.std.specs.Prelude.{◌≡◌, ◌<◌, ℕ, List, [], length, IfOk};
+ghost use Rattle.std.specs.Prelude.{◌≡◌, ◌≢◌, ◌<◌, ℕ, Err, List, [], length, IfOk};
 ghost use Rattle.std.specs.List.{All};
 ghost use Rattle.core_machine.specs.Lines.{Act};
 ghost use Rattle.phase_actors.specs.Script.{IsScript};
@@ -86,7 +86,8 @@ fn act_or_fault<
     requires room { IsRoom P.terms P.exports room.now }
     requires can { CanAct P.terms P.exports (A.setup answers.now) room.now queries.now.items
         lines.now.items actors.items }
-    ensures { IfOk result (λ all. HaveAllActed P.terms P.exports room.now all.items) }
+    ensures acted { IfOk result (λ all. HaveAllActed P.terms P.exports room.now all.items) }
+    ensures late { result ≢ Err PlayFault.Late }
 {
     match act_all(
         alloc, rt, gate, answers, room, channels, queries, lines, actors,
@@ -102,7 +103,9 @@ fn find_channels<R: Wait, J: Judge + Drop, P: Phase + Sends>(
     rt: &R,
     room: &Room<J, P>,
     spares: Vec<Vec<TableCursor>>,
-) -> Result<Channels, PlayFault> {
+) -> Result<Channels, PlayFault>
+    ensures { result ≢ Err PlayFault.Late }
+{
     match Channels::of(alloc, rt, room, spares) {
         Ok(channels) => Ok(channels),
         Err(_) => Err(PlayFault::Op(OpFault::Memory)),
@@ -129,6 +132,7 @@ fn start_protocols<R: Wait, G: Gate, J: Judge + Drop, P: Phase + Sends>(
         AreStartSeats P.terms room.now starters.new.items passes.new.items) }
     ensures started { IfOk result (λ _. HaveStarted (P.terms room.now.played.value).starter
         (starts_of statics.now) starters.new.items) }
+    ensures late { result ≡ Err PlayFault.Late → statics.now ≢ [] }
 {
     let help = Help {
         alloc,
@@ -171,6 +175,7 @@ fn start_and_act<
         AreStartSeats P.terms room.now starters.new.items passes.new.items) }
     ensures started { IfOk result (λ _. HaveStarted (P.terms room.now.played.value).starter
         (starts_of statics.now) starters.new.items) }
+    ensures late { result ≡ Err PlayFault.Late → statics.now ≢ [] }
 {
     let channels = find_channels(alloc, rt, room, spares)?;
     start_protocols(alloc, rt, gate, room, &channels, statics, starters, passes)?;
@@ -218,9 +223,10 @@ fn end_played<R: Wait, J: Judge + Drop, P: Phase + Sends>(
     requires room { IsRoom P.terms P.exports room }
     requires acted { HaveAllActed P.terms P.exports room all.items }
     requires seats { AreStartSeats P.terms room starters.items passes.items }
-    ensures { IfOk result (λ played. (starts : List Act)
+    ensures played { IfOk result (λ played. (starts : List Act)
         → HaveStarted (P.terms room.played.value).starter starts starters.items
         → IsPlayed J.verdict P.terms P.exports room starts played) }
+    ensures late { result ≢ Err PlayFault.Late }
 {
     match end_room(alloc, rt, room, all, starters, passes) {
         Ok(played) => Ok(played),
@@ -259,6 +265,7 @@ pub fn play_room<
     ensures played { IfOk result (λ made. IsPlayed J.verdict P.terms P.exports opening.room
         (starts_of statics.now) made.0) }
     ensures before { IfOk result (λ made. made.1 ≡ opening.before) }
+    ensures late { result ≡ Err PlayFault.Late → statics.now ≢ [] }
 {
     let Opening {
         room,

@@ -1,5 +1,5 @@
 //! Static protocols start, before any actor acts.
-ghost use Rattle.std.specs.Prelude.{◌≡◌, ◌++◌, ◌∷◌, ◌<◌, ℕ, List, [], Some, length, slice_get, IfOk};
+ghost use Rattle.std.specs.Prelude.{◌≡◌, ◌≢◌, ◌++◌, ◌∷◌, ◌<◌, ℕ, Err, List, [], Some, length, slice_get, IfOk};
 ghost use Rattle.std.specs.List.{All};
 ghost use mathlib.Core.List.{IsPrefix};
 ghost use Rattle.jour.specs.Seats.{front, head_of, journal, number_of, own};
@@ -134,6 +134,7 @@ pub(crate) fn start_all<R: Wait, G: Gate, H: Helper, J: Judge + Drop, P: Phase +
         AreStartSeats P.terms room.now starters.new.items passes.new.items) }
     ensures started { IfOk result (λ _. HaveStarted (P.terms room.now.played.value).starter
         (starts_of numbers.now) starters.new.items) }
+    ensures late { result ≡ Err PlayFault.Late → numbers.now ≢ [] }
 {
     for index in 0..numbers.len() {
         start_one(rt, gate, helper, room, numbers[index], starters, passes)?;

@@ -20,4 +20,4 @@ pub end_played-requires-clause-room : goal.end_played-requires-clause-room
 end_played-requires-clause-room g c = c.requires.opening.3.room
 
 pub returns-clause-played : goal.returns-clause-played
-returns-clause-played g c = c.in_ok-played.ensures (starts_of c.args.statics.now) c.in_ok-all.ensures.started
+returns-clause-played g c = c.in_ok-played.ensures.played (starts_of c.args.statics.now) c.in_ok-all.ensures.started
