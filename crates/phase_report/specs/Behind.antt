@@ -4,7 +4,7 @@
 -- Not modelled: how it was played (phase_run).
 -- From: own.
 -- Example: before the first phase there are no entries, and the only channel has number 0.
-use Rattle.std.specs.Prelude.{◌≡◌, ℕ, List, is_some, length, map, Option, option_map, Some, slice_get}
+use Rattle.std.specs.Prelude.{◌≡◌, ℕ, List, length, map, Option, option_map, Some, slice_get}
 use Rattle.std.specs.declared.alloc.Global.{Global}
 use Rattle.std.specs.declared.vec.Vec.{Vec}
 use Rattle.attrs.specs.declared.journal.JEntry.{JEntry}
@@ -15,15 +15,11 @@ use Rattle.phase_open.specs.declared.standing.StandingChannel.{StandingChannel}
 use Rattle.phase_open.specs.declared.standing.StandingProtocol.{StandingProtocol}
 use Rattle.phase_open.specs.declared.standing.StandingTable.{StandingTable}
 use Rattle.phase_run.specs.declared.played.PlayedRoom.{PlayedRoom}
+use Rattle.phase_whole.specs.After.{IsSessionOver}
 
 module _ {J : Type 0} where
   abbrev pub number_of : StandingProtocol J → Option ℕ
   number_of held = option_map (λ (channel : StandingChannel J). channel.number) held.channel
-
-  -- it imports to the same table, and has an exporter where there was one
-  pub record IsSessionOver (held : StandingProtocol J) (session : SessionEnded J) : Type 0 where
-    pub table : session.table ≡ held.table
-    pub channel : is_some session.exporter ≡ is_some held.channel
 
   pub record IsPlayedOver
       (old : Standing J) (tables : List TableParts) (numbers : List (Option ℕ))

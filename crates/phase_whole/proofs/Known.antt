@@ -45,6 +45,7 @@ use Rattle.phase_run.specs.Played.{IsPlayed}
 use Rattle.phase_run.specs.declared.played.PlayedRoom.{PlayedRoom}
 use Rattle.phase_whole.specs.After.{StandsAfter}
 use Rattle.phase_whole.specs.Past.{HasPast}
+use Rattle.phase_whole.proofs.Over.{phases_made, sessions_made}
 
 -- a phase: what stood before it, its room, what it came to, what stands behind it, and what was
 -- printed before and of it
@@ -119,11 +120,7 @@ module _ {J P : Type 0} (s : Scene J P) (k : IsKnown s) where
   entries_printed t phase at = k.entries t ∙ ap (λ (o : Option Phase). reverse (map change_of (said_in o))) at
 
   pub phases_count : length s.made.ended.phases.items ≡ length s.old.tables.items
-  phases_count =
-      let all = k.played.synced.over.phases.count in
-      let many = k.played.synced.over.tables_are.count in
-      let here = k.opens.tables_count in
-      omega (arith, all, many, here)
+  phases_count = phases_made s.verdict s.terms s.exports s.opening.room.played.value s.old s.opening s.starts s.made k.opens k.played
 
   pub record KnownTable (t : ℕ) (phase : Phase) : Type 0 where
     pub table : List ℕ × Family
@@ -170,11 +167,7 @@ module _ {J P : Type 0} (s : Scene J P) (k : IsKnown s) where
   -- ---- protocols
 
   pub sessions_count : length s.made.ended.sessions.items ≡ length s.old.protocols.items
-  sessions_count =
-      let all = k.played.synced.over.sessions.count in
-      let many = k.played.synced.left.count in
-      let here = k.opens.sessions_count in
-      omega (arith, all, many, here)
+  sessions_count = sessions_made s.verdict s.terms s.exports s.opening.room.played.value s.old s.opening s.starts s.made k.opens k.played
 
   pub record KnownProtocol (number : ℕ) (ended : SessionEnded J) : Type 0 where
     pub held : StandingProtocol J

@@ -3,6 +3,7 @@ pub mod ProtocolsAfter
 pub mod ChannelsAfter
 pub mod Pasts
 pub mod Texts
+pub mod Over
 pub mod Known
 pub mod Sessions
 pub mod Behind

@@ -35,7 +35,7 @@ use Rattle.phase_room.specs.Rooms.{TableTerms}
 use Rattle.phase_room.specs.Stands.{StandsSource, StandsTable}
 use Rattle.phase_close.specs.Left.{AreAllTurns}
 use Rattle.phase_close.specs.declared.seats.SessionEnded.{SessionEnded}
-use Rattle.phase_whole.specs.Prints.{PrintsChannel, PrintsProtocol, done_of}
+use Rattle.phase_whole.specs.Prints.{PrintsChannel, PrintsProtocol, done_of, turn_of_record}
 use Rattle.phase_whole.proofs.TablesAfter.{history_content}
 use Rattle.core_machine.proofs.Levels.{are_ways}
 
@@ -91,16 +91,22 @@ module _ (key : ImportTerms) (list : List Entry) (hands : List HandView) (ops : 
   abbrev turn_at : ℕ → Turn
   turn_at place = turn_in (line_at lines place)
 
+  told_same : map (told lines) list ≡ map (turn_of_record lines) ops
+  told_same =
+      sym (map-map turn_at place_of list) ∙ ap (map turn_at) (sym all.lines)
+      ∙ map-map turn_at (λ (r : OpRecord). r.line) ops
+
+  pub prints_turns : turns_told lines list ≡ reverse (map (turn_of_record lines) ops)
+  prints_turns = ap reverse told_same
+
   ops_same : map (λ (d : Done). d.op) (reverse done_all) ≡ map (λ (d : Done). d.op) (map (done_of lines) ops)
   ops_same =
       map_reverse (λ (d : Done). d.op) done_all
       ∙ ap reverse (dones_ops (rules_in key) key.number (past_ops key) (ops_told key list))
       ∙ ap reverse (map_reverse (λ (t : Turn). t.op) (map (told lines) list))
       ∙ reverse-reverse (map (λ (t : Turn). t.op) (map (told lines) list))
-      ∙ map-map (λ (t : Turn). t.op) (told lines) list
-      ∙ sym (map-map (λ (n : ℕ). (turn_at n).op) place_of list)
-      ∙ ap (map (λ (n : ℕ). (turn_at n).op)) (sym all.lines)
-      ∙ map-map (λ (n : ℕ). (turn_at n).op) (λ (r : OpRecord). r.line) ops
+      ∙ ap (map (λ (t : Turn). t.op)) told_same
+      ∙ map-map (λ (t : Turn). t.op) (turn_of_record lines) ops
       ∙ sym (map-map (λ (d : Done). d.op) (done_of lines) ops)
 
   overs_same : map (λ (d : Done). d.over) (reverse done_all) ≡ map (λ (d : Done). d.over) (map (done_of lines) ops)
@@ -165,6 +171,7 @@ module _ {J : Type 0} (verdict : J → Net → Route → Verdict) (key : ImportT
       → PrintsProtocol key.phase.setup key.phase.lines past p key.number session
   prints_protocol imports mode accepted channels = record {
     ops = ops_printed;
+    turns = printed ∙ prints_turns key list hands session.ops.items turns;
     mode = mode ∙ mode_is key.phase.setup key.number protocol source (ops_of ((join past p).ops key.number)) at body ∙ ap (λ (z : Imports). z.mode) (sym imports);
     accepted = accepted ∙ ap length (accepted_is key.phase.setup key.number protocol source (ops_of ((join past p).ops key.number)) at body ∙ ap (λ (z : Imports). z.accepted) (sym imports));
     channels = channels;

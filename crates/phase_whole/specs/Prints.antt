@@ -16,7 +16,7 @@ use Rattle.export_core.specs.declared.log.Key.{Key}
 use Rattle.import_core.specs.declared.step.Done.{Done}
 use Rattle.core_machine.specs.Histories.{content_of, front}
 use Rattle.core_machine.specs.Legal.{Joined, Printed, join}
-use Rattle.core_machine.specs.Lines.{Line, ops_of}
+use Rattle.core_machine.specs.Lines.{Line, Turn, ops_of}
 use Rattle.core_machine.specs.Replies.{replies_to}
 use Rattle.core_setup.specs.Channels.{Channel, channel_at}
 use Rattle.core_setup.specs.Protocols.{rules_of}
@@ -32,9 +32,12 @@ use Rattle.phase_actors.specs.declared.actor.Told.{Told}
 use Rattle.phase_close.specs.declared.seats.SessionEnded.{SessionEnded}
 use Rattle.phase_run.specs.declared.played.PlayedRoom.{PlayedRoom}
 
--- an operation by its record: that of its line among the phase's
+-- an operation by its record, with who asked for it: that of its line among the phase's
+abbrev pub turn_of_record : List Line → OpRecord → Turn
+turn_of_record lines r = turn_in (line_at lines r.line)
+
 abbrev pub done_of : List Line → OpRecord → Done
-done_of lines r = record { op = (turn_in (line_at lines r.line)).op; over = r.over }
+done_of lines r = record { op = (turn_of_record lines r).op; over = r.over }
 
 module _ (setup : Setup) (lines : List Line) (past : Joined) (p : Printed) where
   pub record PrintsTable (t : ℕ) (phase : Phase) : Type 0 where
@@ -51,6 +54,8 @@ module _ (setup : Setup) (lines : List Line) (past : Joined) (p : Printed) where
     pub ops :
         reverse (dones (rules_of setup) i (ops_of (past.ops i)) (ops_of (p.ops i)))
         ≡ map (done_of lines) session.ops.items
+    -- what was printed is told with who asked for it
+    pub turns : p.ops i ≡ reverse (map (turn_of_record lines) session.ops.items)
     pub mode : p.shown.modes i ≡ session.importer.imports.mode
     pub accepted : p.shown.accepted i ≡ length session.importer.imports.accepted
     pub channels :

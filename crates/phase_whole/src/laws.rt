@@ -9,7 +9,7 @@ ghost use Rattle.phase_open.specs.declared.opening.Opening.{Opening as OpeningVi
 ghost use Rattle.phase_open.specs.declared.standing.Standing.{Standing as StandingView};
 ghost use Rattle.phase_run.specs.Played.{AreOfFew, AreStartActs, IsPlayed};
 ghost use Rattle.phase_run.specs.declared.played.PlayedRoom.{PlayedRoom as PlayedRoomView};
-ghost use Rattle.phase_whole.specs.After.{StandsAfter};
+ghost use Rattle.phase_whole.specs.After.{IsMadeOver, StandsAfter};
 ghost use Rattle.phase_whole.specs.First.{IsFirst};
 ghost use Rattle.phase_whole.specs.Past.{HasPast};
 ghost use Rattle.phase_whole.specs.Prints.{Prints};
@@ -48,6 +48,16 @@ pub fn played_phases_are_legal<J: Judge + Drop, P: Phase + Sends>()
     words_spell_one_entry();
     what_threads_leave_is_legal();
 }
+
+/// Of each table and each protocol that stood one thing is left, and of each actor one list of
+/// replies. A session is of the table of what stood, and has an exporter if that had a channel.
+pub fn sessions_are_of_what_stood<J: Judge + Drop, P: Phase + Sends>()
+    ensures { (played : P) (standing : StandingView J) (opening : OpeningView J P)
+        (starts : List Act) (made : PlayedRoomView J)
+        → IsOpening P.terms P.exports played standing.tables.items standing.protocols.items opening
+        → IsPlayed J.verdict P.terms P.exports opening.room starts made
+        → IsMadeOver standing (P.terms played).starter made }
+{}
 
 /// Before the first phase nothing was printed.
 pub fn nothing_was_printed_before<J: Judge + Drop, P: Phase + Sends>()
