@@ -1,0 +1,12 @@
+mod Placed
+mod Resting
+mod Standing
+mod Firsts
+mod Turns
+mod More
+mod Lines
+mod Described
+mod Opened
+mod Ran
+mod Ready
+mod Sharing

@@ -1,0 +1,53 @@
+-- What rests between two phases can be played on, and what a fault says.
+use Rattle.std.proofs.Common.{◌≡◌, ℕ, ◌<◌, List, length, Result, Ok, Err, IsErrAnd, refl, sym, ap, subst, ◌∙◌}
+use Rattle.std.specs.List.{All}
+use Rattle.attrs.specs.declared.judge.Verdict.{Verdict}
+use Rattle.attrs.specs.declared.route.Route.{Route}
+use Rattle.bits_ip.specs.Prefix.{Net}
+use Rattle.core_machine.specs.Legal.{Printed}
+use Rattle.core_setup.specs.Channels.{channels}
+use Rattle.core_setup.specs.Setup.{Setup}
+use Rattle.script_lines.specs.declared.script.Line.{Line}
+use Rattle.import_lock.specs.declared.state.OpFault.TheVariants as ops
+use Rattle.phase_open.specs.Standing.{Stands}
+use Rattle.phase_run.specs.declared.played.PlayFault.{PlayFault}
+use Rattle.phase_run.specs.declared.played.PlayFault.TheVariants as plays
+use Rattle.sys_threads.specs.Faults.{fault_of}
+use Rattle.sys_threads.specs.Playing.{lent_by, sent_by, sent_in, setup_lent, terms_of}
+use Rattle.sys_threads.specs.Running.{CanPlay, IsFew, IsNext, Rests}
+use Rattle.sys_threads.specs.declared.fault.RunFault.{RunFault}
+use Rattle.sys_threads.specs.declared.fault.RunFault.TheVariants as runs
+use Rattle.sys_threads.specs.declared.playing.Playing.{Playing}
+use Rattle.sys_threads.specs.declared.runner.Runner.{Runner}
+
+pub fault_is : {T : Type 0} (result : Result T RunFault) (made fault : RunFault) → IsErrAnd result (λ e. e ≡ made) → result ≡ Err fault → made ≡ fault
+fault_is (Ok x) made fault is same = absurd is
+fault_is (Err e) made fault is same = sym is ∙ cc
+
+-- no other fault of a room is a start that came late
+pub late_only : (play : PlayFault) → fault_of play ≡ runs.Late → play ≡ plays.Late
+late_only plays.Late e = refl
+late_only (plays.Op (ops.Ended head)) e = cc
+late_only (plays.Op ops.Memory) e = cc
+
+module _ {J : Type 0} (verdict : J → Net → Route → Verdict) (runner : Runner J) (setup : Setup) (actors : ℕ) (printed : List Printed) (rests : Rests verdict setup actors printed runner) where
+  pub stands_now : (played : Playing J) → IsNext verdict runner played → Stands (lent_by verdict) (terms_of verdict played) (sent_in verdict played) runner.standing
+  stands_now played next =
+      subst (λ (s : Setup). Stands (lent_by verdict) (terms_of verdict played) (sent_by s) runner.standing) (sym (ap (setup_lent verdict) next.parts ∙ rests.setup_is)) (rests.stands played next)
+
+  pub few_now : IsFew (setup_lent verdict runner.parts) runner.actors
+  few_now = subst (λ (s : Setup). IsFew s runner.actors) (sym rests.setup_is) (subst (λ n. IsFew setup n) (sym rests.actors_are) rests.few)
+
+  pub can_now : (lines : List Line) → CanPlay setup actors lines → CanPlay (setup_lent verdict runner.parts) actors lines
+  can_now lines can = subst (λ (s : Setup). CanPlay s actors lines) (sym rests.setup_is) can
+
+  pub all_can_now : (lines : List Line) → CanPlay setup actors lines → CanPlay (setup_lent verdict runner.parts) runner.actors lines
+  all_can_now lines can = subst (λ n. CanPlay (setup_lent verdict runner.parts) n lines) (sym rests.actors_are) (can_now lines can)
+
+  pub channels_now : runner.channels ≡ length (channels (setup_lent verdict runner.parts))
+  channels_now = rests.channels_are ∙ ap (λ (s : Setup). length (channels s)) (sym rests.setup_is)
+
+  pub statics_now : (statics : List ℕ) → statics ≡ runner.statics.items → All (λ (number : ℕ). number < length (setup_lent verdict runner.parts).protocols) statics
+  statics_now statics same =
+      subst (λ (ns : List ℕ). All (λ (number : ℕ). number < length (setup_lent verdict runner.parts).protocols) ns) (sym same)
+      (subst (λ (s : Setup). All (λ (number : ℕ). number < length s.protocols) runner.statics.items) (sym rests.setup_is) rests.statics)

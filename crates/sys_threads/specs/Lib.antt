@@ -1,0 +1,4 @@
+pub mod Playing
+pub mod Running
+pub mod Faults
+pub mod Inside

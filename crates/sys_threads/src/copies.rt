@@ -1,0 +1,37 @@
+//! Copies of what holds for all routes of a protocol and of a channel.
+ghost use Rattle.std.specs.Prelude.{◌≡◌, IfOk};
+
+use attrs::Seq;
+use bits_ip::OutOfMemory;
+use export_core::ExportSpec;
+use import_core::ImportSpec;
+use std::alloc::Global;
+
+pub(crate) fn copy_imports(alloc: Global, spec: &ImportSpec) -> Result<ImportSpec, OutOfMemory>
+    ensures { IfOk result (λ copy. copy ≡ spec.now) }
+{
+    let fixed = Vec::from_slice(alloc, spec.fixed.as_slice())?;
+    Ok(ImportSpec {
+        src: spec.src,
+        kind: spec.kind,
+        sender: spec.sender,
+        ebgp: spec.ebgp,
+        pref: spec.pref,
+        limit: spec.limit,
+        fixed: Seq::from_vec(fixed),
+    })
+}
+
+pub(crate) fn copy_exports(alloc: Global, spec: &ExportSpec) -> Result<ExportSpec, OutOfMemory>
+    ensures { IfOk result (λ copy. copy ≡ spec.now) }
+{
+    let sources = Vec::from_slice(alloc, spec.sources.as_slice())?;
+    Ok(ExportSpec {
+        family: spec.family,
+        own: spec.own,
+        to_ebgp: spec.to_ebgp,
+        interpret: spec.interpret,
+        every: spec.every,
+        sources: Seq::from_vec(sources),
+    })
+}
