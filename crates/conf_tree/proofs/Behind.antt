@@ -1,25 +1,22 @@
 -- Words behind complete statements are read as they are alone, and the same words can follow them.
-use Rattle.std.proofs.Common.{◌≡◌, ◌↔◌, ℕ, zero, suc, Bool, true, false, cond, ◌||◌, ◌&&◌, not, List, [], ◌∷◌, ◌++◌, length, Option, Some, None, refl, sym, ap, subst, ◌∙◌, append_assoc, append-nil, arith, ◌⊎◌, inl, inr}
-use Rattle.std.proofs.lemmas.List.{length-append}
+use Rattle.std.proofs.Common.{◌≡◌, ◌↔◌, ℕ, zero, suc, Bool, true, false, cond, ◌||◌, not, List, [], ◌∷◌, ◌++◌, length, Option, Some, None, refl, sym, ap, subst, ◌∙◌, append_assoc, inl, inr}
 use Rattle.conf_lex.specs.declared.symbol.Symbol.TheVariants as symbols
 use Rattle.conf_lex.specs.declared.word.Word.{Word}
 use Rattle.conf_lex.specs.Kind.{Kind, kind_of, symbol}
-use Rattle.conf_lex.specs.Grammar.{Why, Bad, TooDeep, Terminal, Epsilon, Seq, Alt, Repeat, Nested, ParseTree, Leaf, NoWords, Pair, Left, Right, Single, Snoc, Deeper, yield, begins, first_set, nullable, is_blank, or_later, can_continue, can_continue_in, DerivesLongest, too_deep}
+use Rattle.conf_lex.specs.Grammar.{Why, Bad, TooDeep, Epsilon, ParseTree, NoWords, Single, Snoc, yield, begins, first_set, is_blank, or_later, can_continue, can_continue_in, DerivesLongest, too_deep}
 use Rattle.conf_lex.specs.Reading.{Read, Parsed, Failed, Reader, and_then, turns}
 use Rattle.conf_lex.specs.Sentences.{IsBegunWithin}
-use Rattle.conf_lex.proofs.Good.{Front, Solid, fits_front, front_begins, begins-append, taken_again}
+use Rattle.conf_lex.proofs.Good.{Front, fits_front, front_begins, begins-append, taken_again}
 use Rattle.conf_lex.proofs.Chains.{full_blank}
-use Rattle.conf_lex.proofs.Checks.{more, all_in, kinds, is_kind, goes_inner, or_left, or_right, and_both}
-use Rattle.conf_lex.proofs.Unique.{fronts}
+use Rattle.conf_lex.proofs.Checks.{more, all_in, kinds, is_kind, goes_inner}
 use Rattle.expr_syntax.specs.Syntax.{rule}
-use Rattle.expr_syntax.specs.Levels.{Form}
 use Rattle.expr_syntax.proofs.Tested.{model, after, checked, good_at, solid_at}
 use Rattle.filt_syntax.specs.RefusedToken.{CanFollow}
 use Rattle.filt_syntax.proofs.Follows.{begun_before}
+use Rattle.word_pairs.proofs.Ends.{implied, not_is, stops_low, ends, InSecond, in_second, ends_so}
 use Rattle.conf_syntax.specs.Syntax.{statement, config}
 use Rattle.conf_tree.specs.Readers.{statement_at, statement_row_at, config_at, to_the_end, whole_at}
 use Rattle.conf_tree.specs.Sentence.{IsSentence}
-use Rattle.conf_tree.proofs.LastWord.{last_one}
 use Rattle.conf_tree.proofs.Tested.{config_checked}
 use Rattle.conf_tree.proofs.ConfigSteps.{statement_checked, row_turn, config_is, ended_at}
 use Rattle.conf_tree.proofs.Whole.{got_stands, bad_stands, bad_stands_not, deep_stands}
@@ -99,23 +96,11 @@ whole_behind k t rest fits levels stops =
 
 -- ---- nothing but a semicolon goes on with a statement, and none begins with one
 
-pub implied : (a b : Bool) → (not a || b) ≡ true → a ≡ true → b ≡ true
-implied true b e h = e
-implied false b e h = absurd cc
-
 goes_on : (k : Kind) → (more after Epsilon k || more after statement k) ≡ true → symbol symbols.Semicolon k ≡ true
 goes_on k = implied _ _ (all_in (λ j. not (more after Epsilon j || more after statement j) || symbol symbols.Semicolon j) k kinds (is_kind k) refl)
 
 no_semicolon : (k : Kind) → first_set config k ≡ true → not (symbol symbols.Semicolon k) ≡ true
 no_semicolon k = implied _ _ (all_in (λ j. not (first_set config j) || not (symbol symbols.Semicolon j)) k kinds (is_kind k) refl)
-
-pub not_is : (b : Bool) → not b ≡ true → b ≡ false
-not_is true e = absurd cc
-not_is false e = refl
-
-stops_low : (a b : Bool) → (a ≡ true → b ≡ true) → b ≡ false → a ≡ false
-stops_low true b h e = let yes = h refl in absurd cc
-stops_low false b h e = refl
 
 stops_before : (t : ParseTree) (ws : List Word) → DerivesLongest rule t config → begins (symbol symbols.Semicolon) ws ≡ false → begins (can_continue_in rule t config) ws ≡ false
 stops_before t [] fits e = refl
@@ -182,58 +167,6 @@ behind_before front last g w cut h =
     }
 
 -- ---- the last word
-
--- the kinds of the last words of a form's trees
-abbrev pub ends : Form → Kind → Bool
-ends (Terminal p) k = p k
-ends Epsilon k = false
-ends (Seq f g) k = ends g k || (nullable g && ends f k)
-ends (Alt f g) k = ends f k || ends g k
-ends (Repeat f g) k = ends f k || ends g k
-ends (Nested p n) k = true
-
--- the last of the words of two lists is the last of the second, or else of the first
-pub record InSecond (a b g : List Word) (w : Word) : Type 0 where
-  pub before : List Word
-  pub cut : b ≡ before ++ w ∷ []
-  pub whole : g ≡ a ++ before
-
-single_word : (w v : Word) (u r : List Word) → w ∷ [] ≡ v ∷ (u ++ r) → r ≡ []
-single_word w v [] [] e = refl
-single_word w v [] (x ∷ r) e = absurd cc
-single_word w v (x ∷ u) r e = absurd cc
-
-in_second : (a b g : List Word) (w : Word) → a ++ b ≡ g ++ w ∷ [] → InSecond a b g w ⊎ ((b ≡ []) × (a ≡ g ++ w ∷ []))
-in_second a b g w e = elim (fronts a b g (w ∷ []) e) [
-  | inl h ↦ inl (record { before = []; cut = h.1; whole = sym h.0 ∙ sym (append-nil a) })
-  | inr x ↦ elim x [
-    | inl l ↦ let none = single_word w l.word l.more b l.rest in inr (none, sym (append-nil a) ∙ ap (λ (u : List Word). a ++ u) (sym none) ∙ e)
-    | inr l ↦ inl (record { before = l.word ∷ l.more; cut = l.rest; whole = l.front })
-  ]
-]
-
-no_words_end : (g : List Word) (w : Word) → [] ≡ g ++ w ∷ [] → ⊥
-no_words_end g w e = omega (arith, ap (λ (u : List Word). length u) e, length-append g (w ∷ []))
-
-nullable_by : (f : Form) (t : ParseTree) → Solid f → DerivesLongest rule t f → yield t ≡ [] → nullable f ≡ true
-nullable_by f t solid fits none = subst (λ (u : List Word). Front f u) none (fits_front rule t f solid fits)
-
-pub ends_so : (t : ParseTree) (f : Form) → Solid f → DerivesLongest rule t f → (g : List Word) (w : Word) → yield t ≡ g ++ w ∷ [] → ends f (kind_of w) ≡ true
-ends_so (Leaf v) (Terminal p) solid fits g w e = ap (λ (u : Word). p (kind_of u)) (sym (last_one [] g v w e)) ∙ fits
-ends_so NoWords Epsilon solid fits g w e = absurd (no_words_end g w e)
-ends_so (Pair a b) (Seq f h) solid fits g w e = elim (in_second (yield a) (yield b) g w e) [
-  | inl second ↦ or_left _ _ (ends_so b h solid.1 fits.1 second.before w second.cut)
-  | inr first ↦ or_right _ _ (and_both _ _ (nullable_by h b solid.1 fits.1 first.0) (ends_so a f solid.0 fits.0 g w first.1))
-]
-ends_so (Left a) (Alt f h) solid fits g w e = or_left _ _ (ends_so a f solid.0 fits g w e)
-ends_so (Right b) (Alt f h) solid fits g w e = or_right _ _ (ends_so b h solid.1 fits g w e)
-ends_so (Single a) (Repeat f h) solid fits g w e = or_left _ _ (ends_so a f solid.0 fits g w e)
-ends_so (Snoc t b) (Repeat f h) solid fits g w e = elim (in_second (yield t) (yield b) g w e) [
-  | inl second ↦ or_right _ _ (ends_so b h solid.1 fits.1 second.before w second.cut)
-  | inr first ↦ ends_so t (Repeat f h) solid fits.0 g w first.1
-]
-ends_so (Deeper v t) (Nested p n) solid fits g w e = refl
-ends_so _ _ solid fits g w e = absurd fits
 
 -- statements don't end in a word of another kind
 pub no_end : (front g : List Word) (w : Word) → ((t : ParseTree) × IsSentence front t) → front ≡ g ++ w ∷ [] → ends config (kind_of w) ≡ false → ⊥

@@ -8,22 +8,11 @@ use Rattle.conf_lex.specs.declared.word.Word.TheVariants as words
 use Rattle.conf_lex.specs.Symbols.{is_placed}
 use Rattle.conf_lex.specs.Kind.{kind_of, symbol}
 use Rattle.conf_lex.proofs.Symbols.{is_symbol_word, symbol_same}
+use Rattle.word_pairs.proofs.Ends.{last_same}
 use Rattle.conf_tree.specs.Sentence.{EndsIn}
 
-first_of : Word → List Word → Word
-first_of d [] = d
-first_of d (w ∷ ws) = w
-
-behind_first : List Word → List Word
-behind_first [] = []
-behind_first (w ∷ ws) = ws
-
 pub last_one : (a b : List Word) (v w : Word) → a ++ v ∷ [] ≡ b ++ w ∷ [] → v ≡ w
-unfolding first_of behind_first
-last_one [] [] v w e = ap (first_of v) e
-last_one [] (y ∷ b) v w e = absurd (omega (arith, ap (λ (l : List Word). length l) e, length-append b (w ∷ [])))
-last_one (x ∷ a) [] v w e = absurd (omega (arith, ap (λ (l : List Word). length l) e, length-append a (v ∷ [])))
-last_one (x ∷ a) (y ∷ b) v w e = last_one a b v w (ap behind_first e)
+last_one = last_same
 
 pub last_ends : (ws front : List Word) (w : Word) (s : Symbol) (b : Bool) → is_placed s ≡ false → ws ≡ front ++ w ∷ [] → b ≡ symbol s (kind_of w) → IsTrue b ↔ EndsIn s ws (λ f. Unit {0})
 last_ends ws front w s b plain cut e = (

@@ -1,4 +1,3 @@
-pub mod Adjacent
 pub mod Behind
 pub mod BgpSteps
 pub mod ChannelSteps
@@ -7,7 +6,6 @@ pub mod FunctionSteps
 pub mod Known
 pub mod LastStatement
 pub mod LastWord
-pub mod Never
 pub mod OneOf
 pub mod OptionSteps
 pub mod PlaceSteps

@@ -5,4 +5,3 @@ pub mod Marks
 pub mod Sentence
 pub mod Position
 pub mod Read
-pub mod Adjacent

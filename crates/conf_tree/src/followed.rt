@@ -2,12 +2,12 @@
 
 ghost use Rattle.conf_syntax.specs.Syntax.{config};
 
-use crate::apart::is_apart;
 use crate::config::config;
 use bits_ip::OutOfMemory;
 use conf_lex::{Refusal, Word};
 use filt_syntax::parts::{LEVELS, Sentences};
 use std::alloc::Global;
+use word_pairs::{is_apart, is_joined};
 
 pub struct Configurations;
 
@@ -17,6 +17,9 @@ impl Sentences for Configurations {
     fn is_begun(alloc: Global, words: &[Word]) -> Result<bool, OutOfMemory> {
         if is_apart(words) {
             return Ok(false);
+        }
+        if is_joined(words) {
+            return Ok(true);
         }
         let mut unread = 0;
         match config(alloc, words, LEVELS, &mut unread) {

@@ -7,6 +7,12 @@ use Rattle.conf_tree.proofs.followed.ConfigurationsSentences.is_begun.Goals.{in-
 pub returns-then-is_apart : goal.returns-then-is_apart
 returns-then-is_apart c = (λ yes. absurd (false≢true yes), λ begun. absurd (c.is_apart.ensures c.if-is_apart.true begun))
 
+pub returns-then-is_joined : goal.returns-then-is_joined
+returns-then-is_joined c =
+    let next = c.requires in
+    let before = next.3 in
+    (λ yes. c.is_joined.ensures c.if-is_joined.true next.0 next.1 next.2 (before.0, before.1, before.2, before.3), λ begun. refl)
+
 pub returns : goal.returns
 returns c =
     let words = c.args.words.now in

@@ -11,13 +11,12 @@ use Rattle.conf_lex.proofs.Unique.{fronts}
 use Rattle.expr_syntax.specs.Syntax.{rule}
 use Rattle.expr_syntax.specs.Levels.{Level, Form}
 use Rattle.expr_syntax.proofs.Tested.{checked, solid_at}
-use Rattle.conf_tree.specs.Adjacent.{has}
-use Rattle.conf_tree.proofs.Behind.{implied, ends, ends_so}
-use Rattle.conf_tree.proofs.Known.{not_both}
+use Rattle.word_pairs.specs.Pairs.{has}
+use Rattle.word_pairs.proofs.Ends.{implied, ends, ends_so, not_both}
 
 -- ---- two words among those of two trees
 
-data Place (x y front : List Word) (u w : Word) (more : List Word) : Type 0 where
+pub data Place (x y front : List Word) (u w : Word) (more : List Word) : Type 0 where
   in_first : (rest : List Word) → x ≡ front ++ u ∷ w ∷ rest → Place x y front u w more
   between : x ≡ front ++ u ∷ [] → y ≡ w ∷ more → Place x y front u w more
   in_second : (rest : List Word) → front ≡ x ++ rest → y ≡ rest ++ u ∷ w ∷ more → Place x y front u w more
@@ -32,7 +31,7 @@ by_rest x y front u w more v (z ∷ rest) cut e =
     let next : z ≡ w = cc in
     in_first rest (cut ∙ ap (λ (a : Word). front ++ a ∷ z ∷ rest) same ∙ ap (λ (a : Word). front ++ u ∷ a ∷ rest) next)
 
-place_of : (x y front : List Word) (u w : Word) (more : List Word) → x ++ y ≡ front ++ u ∷ w ∷ more → Place x y front u w more
+pub place_of : (x y front : List Word) (u w : Word) (more : List Word) → x ++ y ≡ front ++ u ∷ w ∷ more → Place x y front u w more
 place_of x y front u w more e = elim (fronts x y front (u ∷ w ∷ more) e) [
   | inl same ↦ in_second [] (sym same.0 ∙ sym (append-nil x)) same.1
   | inr other ↦ elim other [
@@ -56,7 +55,7 @@ has_left c (x ∷ xs) ys e = elim (or_cases (c (kind_of x)) (has c xs) e) [
   | inr h ↦ or_right _ _ (has_left c xs ys h)
 ]
 
-has_right : (c : Kind → Bool) (xs ys : List Word) → has c ys ≡ true → has c (xs ++ ys) ≡ true
+pub has_right : (c : Kind → Bool) (xs ys : List Word) → has c ys ≡ true → has c (xs ++ ys) ≡ true
 has_right c [] ys e = e
 has_right c (x ∷ xs) ys e = or_right _ _ (has_right c xs ys e)
 
@@ -67,8 +66,20 @@ none_right c xs ys none = by (has c ys) refl
     by true e = absurd (not_both _ (has_right c xs ys e) none)
     by false e = e
 
--- the kinds of the word before, of the one behind it, and of those that let them
-module _ (a b c : Kind → Bool) where
+-- each kind and none
+
+abbrev pub any : Kind → Bool
+any k = true
+
+abbrev pub no_kind : Kind → Bool
+no_kind k = false
+
+pub has_none : (ws : List Word) → has no_kind ws ≡ false
+has_none [] = refl
+has_none (w ∷ ws) = has_none ws
+
+-- the kinds of the word before, of the one behind it, of those that let them, and the levels that are looked at
+module _ (a b c : Kind → Bool) (inside : Level → Bool) where
   -- no word that passes the one test stands before one that passes the other
   abbrev pub apart : (Kind → Bool) → (Kind → Bool) → Bool
   apart p q = all_of kinds (λ k. not (b k) || not (q k)) || all_of kinds (λ k. not (a k) || not (p k))
@@ -89,7 +100,7 @@ module _ (a b c : Kind → Bool) where
   fine (Seq f g) = fine f && (lets f || (fine g && apart (ends f) (first_set g)))
   fine (Alt f g) = fine f && fine g
   fine (Repeat f g) = fine f && (lets f || (fine g && apart (ends (Repeat f g)) (first_set g)))
-  fine (Nested p n) = apart p (first_set (rule n))
+  fine (Nested p n) = apart p (first_set (rule n)) && inside n
 
   not_passed : (p q : Kind → Bool) (k : Kind) → all_of kinds (λ j. not (p j) || not (q j)) ≡ true → p k ≡ true → q k ≡ true → ⊥
   not_passed p q k all is also =
@@ -123,7 +134,7 @@ module _ (a b c : Kind → Bool) where
   rest_has_none : (x front rest : List Word) (u : Word) → front ≡ x ++ rest → has c (front ++ u ∷ []) ≡ false → has c (x ++ (rest ++ u ∷ [])) ≡ false
   rest_has_none x front rest u before none = ap (has c) (sym (append_assoc x rest (u ∷ [])) ∙ ap (λ (v : List Word). v ++ u ∷ []) (sym before)) ∙ none
 
-  module _ (rules : (n : Level) → fine (rule n) ≡ true) where
+  module _ (rules : (n : Level) → inside n ≡ true → fine (rule n) ≡ true) where
     pub apart_words : (t : ParseTree) (f : Form) → Solid f → fine f ≡ true → DerivesLongest rule t f → (front : List Word) (u w : Word) (more : List Word) → yield t ≡ front ++ u ∷ w ∷ more → a (kind_of u) ≡ true → b (kind_of w) ≡ true → has c (front ++ u ∷ []) ≡ false → ⊥
     apart_words (Leaf v) (Terminal p) solid ok fits front u w more e is_a is_b none = too_few v front u w more e
     apart_words NoWords Epsilon solid ok fits front u w more e is_a is_b none = none_fewer front u w more e
@@ -165,10 +176,10 @@ module _ (a b c : Kind → Bool) where
         let same : v ≡ u = cc in
         let next : yield t ≡ w ∷ more = cc in
         let passes : p (kind_of u) ≡ true = ap (λ (z : Word). p (kind_of z)) (sym same) ∙ fits.0 in
-        apart_so p (first_set (rule n)) (kind_of u) (kind_of w) ok is_a is_b passes (first_is t (rule n) (solid_at (rule n) (checked.checks n)) fits.1 w more next)
+        apart_so p (first_set (rule n)) (kind_of u) (kind_of w) (and_true _ _ ok).0 is_a is_b passes (first_is t (rule n) (solid_at (rule n) (checked.checks n)) fits.1 w more next)
     apart_words (Deeper v t) (Nested p n) solid ok fits (z ∷ front) u w more e is_a is_b none =
         let next : yield t ≡ front ++ u ∷ w ∷ more = cc in
-        apart_words t (rule n) (solid_at (rule n) (checked.checks n)) (rules n) fits.1 front u w more next is_a is_b (none_right c (z ∷ []) (front ++ u ∷ []) none)
+        apart_words t (rule n) (solid_at (rule n) (checked.checks n)) (rules n (and_true (apart p (first_set (rule n))) (inside n) ok).1) fits.1 front u w more next is_a is_b (none_right c (z ∷ []) (front ++ u ∷ []) none)
     apart_words _ _ solid ok fits front u w more e is_a is_b none = absurd fits
 
     pub never_begun : (f : Form) → Solid f → fine f ≡ true → (front : List Word) (u w : Word) → a (kind_of u) ≡ true → b (kind_of w) ≡ true → has c (front ++ u ∷ []) ≡ false → IsBegun rule f ((front ++ u ∷ []) ++ w ∷ []) → ⊥

@@ -1,0 +1,8 @@
+pub mod Ends
+mod Adjacent
+mod LastBracket
+mod Never
+mod Prefixes
+mod Swaps
+mod Routes
+mod WithinSets
