@@ -9,3 +9,4 @@ pub mod Playable
 pub mod Announcing
 pub mod Bridging
 pub mod Turns
+pub mod Sharing
