@@ -11,30 +11,34 @@ use std::env;
 use std::io::ErrorKind;
 use std::process::ExitCode;
 
-/// Does what the program's words ask for, over the files of the system and standard output.
-fn answer(rt: &HostRuntime) -> Status {
-    let alloc = rt.alloc();
-    let mut words = Vec::new(alloc);
+/// The program's words, behind its name.
+fn words_of(rt: &HostRuntime) -> Result<Vec<String>, Status> {
+    let mut words = Vec::new(rt.alloc());
     match env::args(rt) {
         Ok(args) => {
             for word in args.skip(1) {
                 if words.push(word).is_err() {
-                    return Status::OutOfMemory;
+                    return Err(Status::OutOfMemory);
                 }
             }
+            Ok(words)
         }
-        Err(error) if error.kind() == ErrorKind::OutOfMemory => return Status::OutOfMemory,
-        Err(_) => return Status::Usage,
+        Err(error) if error.kind() == ErrorKind::OutOfMemory => Err(Status::OutOfMemory),
+        Err(_) => Err(Status::Usage),
     }
-    let mut shelf = FileShelf::new(rt);
-    let mut out = StdSink::new(rt);
-    top(rt, alloc, &words, &mut shelf, &mut out, &OpenGate)
 }
 
 fn main(rt: HostRuntime) -> ExitCode {
-    let status = answer(&rt);
+    let status = match words_of(&rt) {
+        Ok(words) => {
+            let mut shelf = FileShelf::new(&rt);
+            let mut out = StdSink::new(&rt);
+            top(&rt, rt.alloc(), &words, &mut shelf, &mut out, &OpenGate)
+        }
+        Err(status) => status,
+    };
     if status != Status::Ok {
-        let _ = eprintln!(rt; "{status}");
+        let _ = eprintln!(&rt; "{status}");
     }
     ExitCode::from(status.number())
 }

@@ -6,3 +6,4 @@ pub mod Joined
 pub mod Outcomes
 pub mod Decided
 pub mod Owed
+mod Running

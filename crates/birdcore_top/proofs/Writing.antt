@@ -1,11 +1,11 @@
--- What is written of a play, phase by phase.
-use Rattle.std.proofs.Common.{◌≡◌, ℕ, ◌<◌, ◌+◌, ◌^◌, arith, List, [], ◌∷◌, ◌++◌, length, take, drop, map, Option, refl, sym, ◌∙◌, ap, subst, append_assoc, append-nil, take-append-drop}
+-- What is written of a play or a run, phase by phase.
+use Rattle.std.proofs.Common.{◌≡◌, ℕ, ◌<◌, ◌≤◌, ◌+◌, ◌^◌, arith, inl, inr, List, [], ◌∷◌, ◌++◌, length, take, drop, map, Option, refl, sym, ◌∙◌, ap, subst, append_assoc, append-nil, take-append-drop}
 use Rattle.std.proofs.KnownBytes.{Appends-nil}
 use Rattle.std.proofs.Math.Seq.{take-append_seam}
 use Rattle.std.proofs.lemmas.Grind.{flat_map-append}
 use Rattle.std.proofs.lemmas.List.{length-append, length-map, map-append}
 use Rattle.std.proofs.lemmas.List.Elements.{All-head, All-tail}
-use Rattle.std.specs.Prelude.{codes}
+use Rattle.std.specs.Prelude.{◌⊎◌, codes}
 use Rattle.std.specs.Io.KnownBytes.{Appends, Keeps}
 use Rattle.std.specs.List.{All, flat_map}
 use Rattle.attrs.specs.declared.judge.Verdict.{Verdict}
@@ -16,19 +16,26 @@ use Rattle.core_machine.specs.Lines.{Act, Line as MachineLine}
 use Rattle.core_machine.specs.Machine.{State}
 use Rattle.core_machine.specs.Phases.{PlaysAll}
 use Rattle.core_machine.specs.Rules.{Rules}
+use Rattle.core_setup.specs.Plays.{IsLegalPlay}
 use Rattle.core_setup.specs.Protocols.{rules_of, starts}
 use Rattle.core_setup.specs.Setup.{Setup}
 use Rattle.outside_io.proofs.Blocks.{appends_kept, appends_more}
+use Rattle.outside_io.specs.Faults.{Rose}
 use Rattle.outside_io.specs.Whole.{WritesFront}
 use Rattle.report.specs.Report.{report_text, text_in}
 use Rattle.report.specs.declared.phase.Form.{Form}
 use Rattle.report.specs.declared.phase.PhaseReport.{PhaseReport}
 use Rattle.script_lines.specs.declared.script.Line.{Line}
-use Rattle.sys_run.specs.Playing as core
 use Rattle.sys_run.specs.Playing.{PlaysTo}
 use Rattle.sys_run.specs.Scripts.{phase_of}
 use Rattle.sys_run.specs.declared.player.Core.{Core}
-use Rattle.birdcore_top.specs.Written.{ArePlayed, HasBegun, HasPlayed, HasWritten, text_so_far}
+use Rattle.sys_threads.specs.declared.runner.Runner.{Runner}
+use Rattle.birdcore_top.specs.Answer.{CutsOff, IsEnd}
+use Rattle.birdcore_top.specs.Inside.{Ends, HasWritten, PlayedBy, RunBy}
+use Rattle.birdcore_top.specs.Written.{ArePlayed, AreRun, HasBegun, HasPlayed, text_so_far}
+use Rattle.birdcore_top.specs.declared.status.Status.{Status}
+use Rattle.birdcore_top.specs.declared.status.Status.TheVariants.{Ok, OutOfMemory, WriteFault}
+use Rattle.birdcore_top.proofs.Joined.{rose_since}
 
 -- ---- texts
 
@@ -97,25 +104,34 @@ plays_all rules acts past s (lines ∷ more) (p ∷ printed) t is = (is.0, is.1,
 
 module _ {J : Type 0} (verdict : J → Net → Route → Verdict) (setup : Setup) (actors : List (List ℕ)) where
   -- what a core has played is a play
-  pub is_play : (phases : List (List Line)) (reports : List PhaseReport) (now : Core J) → core.HasPlayed verdict setup actors (map (phase_of setup.queries) phases) reports now
-      → ArePlayed setup actors phases reports
-  is_play phases reports now is = record {
+  pub is_play : (now : Core J) (phases : List (List Line)) (reports : List PhaseReport) → PlayedBy verdict setup actors now (map (phase_of setup.queries) phases) reports → ArePlayed setup actors phases reports
+  is_play now phases reports is = record {
     printed = is.printed;
     plays = plays_all (rules_of setup) (starts setup) nothing _ (map (phase_of setup.queries) phases) is.printed is.state is.plays;
     are = is.are;
   }
 
-  -- no phase is done
-  pub nothing_yet : (form : Form) (now : Core J) (a : Option (List ℕ)) → core.HasPlayed verdict setup actors [] [] now → HasWritten verdict setup actors [] form now a a
-  nothing_yet form now a is = record { reports = []; played = is; written = Appends-nil a }
+  -- what a runner has run is legal
+  pub is_run : (now : Runner J) (scripts : List (List MachineLine)) (reports : List PhaseReport) → RunBy verdict setup actors now scripts reports → IsLegalPlay setup actors scripts reports
+  is_run now scripts reports is = record { printed = is.printed; legal = is.legal; are = is.are }
 
-  module _ (form : Form) (phases : List (List Line)) (lines : List Line) (now next : Core J) (report : PhaseReport) (a b c : Option (List ℕ)) (written : HasWritten verdict setup actors phases form now a b)
-      (played : core.HasPlayed verdict setup actors (map (phase_of setup.queries) phases ++ phase_of setup.queries lines ∷ []) (written.reports ++ report ∷ []) next) where
-    one_more : core.HasPlayed verdict setup actors (map (phase_of setup.queries) (phases ++ lines ∷ [])) (written.reports ++ report ∷ []) next
-    one_more = subst (λ (l : List (List MachineLine)). core.HasPlayed verdict setup actors l (written.reports ++ report ∷ []) next) (sym (map-append (phase_of setup.queries) phases (lines ∷ []))) played
+module _ (setup : Setup) (form : Form) where
+  -- no phase is done
+  pub nothing_yet : (Has : List (List MachineLine) → List PhaseReport → Type 0) (a : Option (List ℕ)) → Has [] [] → HasWritten Has setup [] form a a
+  nothing_yet Has a is = record { reports = []; played = is; written = Appends-nil a }
+
+  -- what is written of what has been done so, said in other words
+  pub written_so : (Has Others : List (List MachineLine) → List PhaseReport → Type 0) → ((scripts : List (List MachineLine)) (reports : List PhaseReport) → Has scripts reports → Others scripts reports)
+      → (phases : List (List Line)) (a b : Option (List ℕ)) → HasWritten Has setup phases form a b → HasWritten Others setup phases form a b
+  written_so Has Others law phases a b is = record { reports = is.reports; played = law _ is.reports is.played; written = is.written }
+
+  module _ (Has Next : List (List MachineLine) → List PhaseReport → Type 0) (phases : List (List Line)) (lines : List Line) (report : PhaseReport) (a b c : Option (List ℕ)) (written : HasWritten Has setup phases form a b)
+      (played : Next (map (phase_of setup.queries) phases ++ phase_of setup.queries lines ∷ []) (written.reports ++ report ∷ [])) where
+    one_more : Next (map (phase_of setup.queries) (phases ++ lines ∷ [])) (written.reports ++ report ∷ [])
+    one_more = subst (λ (l : List (List MachineLine)). Next l (written.reports ++ report ∷ [])) (sym (map-append (phase_of setup.queries) phases (lines ∷ []))) played
 
     -- a phase more is done
-    pub phase_more : Appends b c (text_in form report) → HasWritten verdict setup actors (phases ++ lines ∷ []) form next a c
+    pub phase_more : Appends b c (text_in form report) → HasWritten Next setup (phases ++ lines ∷ []) form a c
     phase_more text = record {
       reports = written.reports ++ report ∷ [];
       played = one_more;
@@ -123,58 +139,71 @@ module _ {J : Type 0} (verdict : J → Net → Route → Verdict) (setup : Setup
     }
 
     -- the sink failed in the report of a phase
-    pub cut_in_phase : (all more : List (List Line)) → all ≡ (phases ++ lines ∷ []) ++ more → WritesFront b c (text_in form report)
-        → HasBegun (ArePlayed setup actors) all (λ left reports. WritesFront a c (text_so_far form left reports))
-    cut_in_phase all more whole text = record {
+    pub cut_in_phase : (Are : List (List Line) → List PhaseReport → Type 0) → ((done : List (List Line)) (reports : List PhaseReport) → Next (map (phase_of setup.queries) done) reports → Are done reports)
+        → (all more : List (List Line)) → all ≡ (phases ++ lines ∷ []) ++ more → WritesFront b c (text_in form report) → HasBegun Are all (λ left reports. WritesFront a c (text_so_far form left reports))
+    cut_in_phase Are law all more whole text = record {
       first = phases ++ lines ∷ [];
       more = more;
       reports = written.reports ++ report ∷ [];
       whole = whole;
-      played = is_play (phases ++ lines ∷ []) (written.reports ++ report ∷ []) next one_more;
+      played = law (phases ++ lines ∷ []) (written.reports ++ report ∷ []) one_more;
       said = so_far form a b c written.reports report more written.written text;
     }
 
-  module _ (form : Form) (phases : List (List Line)) (now : Core J) (a b c : Option (List ℕ)) (written : HasWritten verdict setup actors phases form now a b) where
+  module _ (Has : List (List MachineLine) → List PhaseReport → Type 0) (Are : List (List Line) → List PhaseReport → Type 0)
+      (law : (done : List (List Line)) (reports : List PhaseReport) → Has (map (phase_of setup.queries) done) reports → Are done reports) (phases : List (List Line)) (a b c : Option (List ℕ))
+      (written : HasWritten Has setup phases form a b) where
     -- nothing more is written
-    pub cut_between : (all more : List (List Line)) → all ≡ phases ++ more → Keeps b c → HasBegun (ArePlayed setup actors) all (λ left reports. Appends a c (flat_map (text_in form) reports))
+    pub cut_between : (all more : List (List Line)) → all ≡ phases ++ more → Keeps b c → HasBegun Are all (λ left reports. Appends a c (flat_map (text_in form) reports))
     cut_between all more whole kept = record {
       first = phases;
       more = more;
       reports = written.reports;
       whole = whole;
-      played = is_play phases written.reports now written.played;
+      played = law phases written.reports written.played;
       said = appends_kept a b c (flat_map (text_in form) written.reports) written.written kept;
     }
 
     -- all is written
-    pub all_written : Appends b c (codes "end\n") → HasPlayed (ArePlayed setup actors) phases (λ reports. Appends a c (report_text form reports))
+    pub all_written : Appends b c (codes "end\n") → HasPlayed Are phases (λ reports. Appends a c (report_text form reports))
     all_written text = record {
       reports = written.reports;
-      played = is_play phases written.reports now written.played;
+      played = law phases written.reports written.played;
       said = appends_more a b c (flat_map (text_in form) written.reports) (codes "end\n") written.written text;
     }
 
     -- the sink failed in the last line
-    pub cut_at_end : WritesFront b c (codes "end\n") → HasBegun (ArePlayed setup actors) phases (λ left reports. WritesFront a c (text_so_far form left reports))
+    pub cut_at_end : WritesFront b c (codes "end\n") → HasBegun Are phases (λ left reports. WritesFront a c (text_so_far form left reports))
     cut_at_end text = record {
       first = phases;
       more = [];
       reports = written.reports;
       whole = sym (append-nil phases);
-      played = is_play phases written.reports now written.played;
+      played = law phases written.reports written.played;
       said = front_last a b c (flat_map (text_in form) written.reports) (codes "end\n") written.written text;
     }
 
--- nothing is played, nothing is written
-pub not_begun : (form : Form) (setup : Setup) (actors : List (List ℕ)) (phases : List (List Line)) (a : Option (List ℕ)) → HasBegun (ArePlayed setup actors) phases (λ left reports. Appends a a (flat_map (text_in form) reports))
-not_begun form setup actors phases a = record {
-  first = [];
-  more = phases;
-  reports = [];
-  whole = refl;
-  played = record { printed = []; plays = tt; are = tt };
-  said = Appends-nil a;
-}
+-- nothing is done, nothing is written
+module _ (form : Form) (setup : Setup) (actors : List (List ℕ)) (phases : List (List Line)) (a : Option (List ℕ)) where
+  pub not_begun : HasBegun (ArePlayed setup actors) phases (λ left reports. Appends a a (flat_map (text_in form) reports))
+  not_begun = record {
+    first = [];
+    more = phases;
+    reports = [];
+    whole = refl;
+    played = record { printed = []; plays = tt; are = tt };
+    said = Appends-nil a;
+  }
+
+  pub not_run : HasBegun (AreRun setup actors) phases (λ left reports. Appends a a (flat_map (text_in form) reports))
+  not_run = record {
+    first = [];
+    more = phases;
+    reports = [];
+    whole = refl;
+    played = record { printed = []; legal = tt; are = tt };
+    said = Appends-nil a;
+  }
 
 -- ---- by what else their reports are
 
@@ -191,3 +220,70 @@ module _ (Are Others : List (List Line) → List PhaseReport → Type 0) (law : 
     played = law is.first is.reports is.played;
     said = is.said;
   }
+
+-- what one thread has played is what a run owes
+module _ (setup : Setup) (actors : List (List ℕ)) (law : (phases : List (List Line)) (reports : List PhaseReport) → ArePlayed setup actors phases reports → AreRun setup actors phases reports) (phases : List (List Line)) (form : Form) where
+  pub ends_as_play : (a c : Option (List ℕ)) (before after : ℕ) (status : Status) → IsEnd status
+      → (status ≡ Ok → HasPlayed (ArePlayed setup actors) phases (λ reports. Appends a c (report_text form reports)))
+      → (status ≡ WriteFault → HasBegun (ArePlayed setup actors) phases (λ more reports. WritesFront a c (text_so_far form more reports)))
+      → (status ≡ OutOfMemory → HasBegun (ArePlayed setup actors) phases (λ more reports. Appends a c (flat_map (text_in form) reports)))
+      → (status ≡ WriteFault → Rose before after) → Ends (AreRun setup actors) phases form a c before after status
+  ends_as_play a c before after status end report front begun write = record {
+    end = end;
+    report = λ is. played_so (ArePlayed setup actors) (AreRun setup actors) law phases _ (report is);
+    front = λ is. begun_so (ArePlayed setup actors) (AreRun setup actors) law phases _ (front is);
+    begun = λ is. begun_so (ArePlayed setup actors) (AreRun setup actors) law phases _ (begun is);
+    write = write;
+  }
+
+-- memory was wanted before anything was written
+module _ (setup : Setup) (actors : List (List ℕ)) (phases : List (List Line)) (form : Form) where
+  pub ends_before : (a : Option (List ℕ)) (faults : ℕ) → Ends (AreRun setup actors) phases form a a faults faults OutOfMemory
+  ends_before a faults = record {
+    end = tt;
+    report = λ is. absurd (cc);
+    front = λ is. absurd (cc);
+    begun = λ is. not_run form setup actors phases a;
+    write = λ is. absurd (cc);
+  }
+
+  -- all phases are run, and the last line is written or not
+  pub ends_whole : (a b c : Option (List ℕ)) (before between after : ℕ) (status : Status) → HasWritten (IsLegalPlay setup actors) setup phases form a b → before ≤ between
+      → (status ≡ Ok) ⊎ (status ≡ WriteFault) → (status ≡ Ok → Appends b c (codes "end\n")) → (status ≡ WriteFault → WritesFront b c (codes "end\n")) → (status ≡ WriteFault → Rose between after)
+      → Ends (AreRun setup actors) phases form a c before after status
+  ends_whole a b c before between after status written later end whole front rose = record {
+    end = either end;
+    report = λ is. all_written setup form (IsLegalPlay setup actors) (AreRun setup actors) (λ done reports run. run) phases a b c written (whole is);
+    front = λ is. cut_at_end setup form (IsLegalPlay setup actors) (AreRun setup actors) (λ done reports run. run) phases a b c written (front is);
+    begun = λ is. absurd (never end is);
+    write = λ is. rose_since before between after later (rose is);
+  }
+    where
+      either : (status ≡ Ok) ⊎ (status ≡ WriteFault) → IsEnd status
+      either (inl is) = subst IsEnd (sym is) tt
+      either (inr is) = subst IsEnd (sym is) tt
+
+      never : (status ≡ Ok) ⊎ (status ≡ WriteFault) → status ≡ OutOfMemory → ⊥
+      never (inl is) other = cc
+      never (inr is) other = cc
+
+  -- the run is cut off behind its first phases
+  pub ends_cut : (a c : Option (List ℕ)) (before after : ℕ) (status : Status) → CutsOff status
+      → (status ≡ WriteFault → HasBegun (AreRun setup actors) phases (λ more reports. WritesFront a c (text_so_far form more reports)))
+      → (status ≡ OutOfMemory → HasBegun (AreRun setup actors) phases (λ more reports. Appends a c (flat_map (text_in form) reports)))
+      → (status ≡ WriteFault → Rose before after) → Ends (AreRun setup actors) phases form a c before after status
+  ends_cut a c before after status cut front begun write = record {
+    end = ended cut;
+    report = λ is. absurd (never cut is);
+    front = front;
+    begun = begun;
+    write = write;
+  }
+    where
+      ended : CutsOff status → IsEnd status
+      ended (inl is) = subst IsEnd (sym is) tt
+      ended (inr is) = subst IsEnd (sym is) tt
+
+      never : CutsOff status → status ≡ Ok → ⊥
+      never (inl is) other = cc
+      never (inr is) other = cc

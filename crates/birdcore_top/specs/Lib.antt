@@ -3,3 +3,4 @@ pub mod Outcome
 pub mod Answer
 pub mod Written
 pub mod Answered
+pub mod Inside

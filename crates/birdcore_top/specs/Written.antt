@@ -6,11 +6,7 @@
 -- From: own.
 -- Example: the worked run of docs/DEFINITIONS.md.
 use Rattle.std.specs.Prelude.{◌≡◌, ℕ, List, [], ◌∷◌, ◌++◌, codes, map, Option, Some}
-use Rattle.std.specs.Io.KnownBytes.{Appends}
 use Rattle.std.specs.List.{All, flat_map}
-use Rattle.attrs.specs.declared.judge.Verdict.{Verdict}
-use Rattle.attrs.specs.declared.route.Route.{Route}
-use Rattle.bits_ip.specs.Prefix.{Net}
 use Rattle.core_setup.specs.Plays.{IsLegalPlay, IsPlay}
 use Rattle.core_setup.specs.Setup.{Setup}
 use Rattle.report.specs.Report.{report_text, text_in}
@@ -19,9 +15,8 @@ use Rattle.report.specs.declared.phase.PhaseReport.{PhaseReport}
 use Rattle.script_lines.specs.declared.script.Line.{Line}
 use Rattle.sys_build.specs.Setups.{setup_of}
 use Rattle.sys_build.specs.declared.scripts.ReadScript.{ReadScript}
-use Rattle.sys_run.specs.Playing as core
 use Rattle.sys_run.specs.Scripts.{AsksWhatIs, FitsLine, phase_of}
-use Rattle.sys_run.specs.declared.player.Core.{Core}
+use Rattle.sys_threads.specs.Running.{NamesSome}
 use Rattle.conf_system.specs.Seen.{filter_says, system_of}
 use Rattle.conf_system.specs.declared.system.System.{System}
 use Rattle.birdcore_top.specs.Command.{Command, Run}
@@ -97,6 +92,11 @@ phases_read script = map (λ phase. phase.items) script.phases.items
 abbrev pub AskWhatIs : ℕ → List (List Line) → Type 0
 AskWhatIs queries phases = All (All (AsksWhatIs queries)) phases
 
+-- each line of these phases is of one of so many actors, and names a protocol or a query that is
+-- there
+abbrev pub NameSome : Setup → ℕ → List (List Line) → Type 0
+NameSome setup actors phases = All (All (NamesSome actors setup)) phases
+
 -- what each line of these phases announces is of the family of its protocol's table
 abbrev pub FitTables : Setup → List (List Line) → Type 0
 FitTables setup phases = All (All (FitsLine setup)) phases
@@ -119,12 +119,3 @@ pub record HasBegun
   pub whole : phases ≡ first ++ more
   pub played : Are first reports
   pub said : P more reports
-
--- The core has played these phases, and the texts of their reports are written.
-pub record HasWritten
-    {J : Type 0} (verdict : J → Net → Route → Verdict) (setup : Setup) (actors : List (List ℕ))
-    (phases : List (List Line)) (form : Form) (now : Core J) (before after : Option (List ℕ))
-    : Type 0 where
-  pub reports : List PhaseReport
-  pub played : core.HasPlayed verdict setup actors (map (phase_of setup.queries) phases) reports now
-  pub written : Appends before after (flat_map (text_in form) reports)

@@ -9,7 +9,7 @@ ghost use Rattle.conf_system.specs.Coded.{AllCanRun, CanRunOver};
 ghost use Rattle.conf_system.specs.Seen.{filter_says, system_of};
 ghost use Rattle.birdcore_top.specs.Outcome.{OverLimit, Played, Configures, ConfGives, IsConfigured, PlayGives, ScriptGives};
 ghost use Rattle.birdcore_top.specs.Answer.{AreMissedInTurn, IsMissed, FindsLackedBy, IsReadStatus, Stops};
-ghost use Rattle.birdcore_top.specs.Written.{AskWhatIs, FitTables, phases_read, setup_read};
+ghost use Rattle.birdcore_top.specs.Written.{AskWhatIs, FitTables, NameSome, phases_read, setup_read};
 
 use crate::status::Status;
 use conf_system::{System, read_system};
@@ -17,6 +17,7 @@ use outside_io::{ReadError, Shelf, read_whole};
 use std::alloc::Global;
 use sys_build::laws::{
     accepted_scripts_are_setups, accepted_scripts_fit_their_tables, accepted_scripts_name_what_is,
+    names_count_as_the_setup,
 };
 use sys_build::{ReadScript, read_script};
 
@@ -47,6 +48,9 @@ pub(crate) fn read_files<F: Shelf>(
         → IsSetup (setup_read files.system files.script cells)) }
     ensures asked { IfOk result (λ files.
         AskWhatIs (length files.script.queries.items) (phases_read files.script)) }
+    ensures named { IfOk result (λ files. (cells : ℕ)
+        → NameSome (setup_read files.system files.script cells) (length files.script.actors.items)
+        (phases_read files.script)) }
     ensures fits { IfOk result (λ files. (cells : ℕ)
         → FitTables (setup_read files.system files.script cells) (phases_read files.script)) }
     ensures stopped { IfErr result (Stops (λ o. (cells : ℕ)
@@ -61,6 +65,7 @@ pub(crate) fn read_files<F: Shelf>(
     accepted_scripts_are_setups();
     accepted_scripts_name_what_is();
     accepted_scripts_fit_their_tables();
+    names_count_as_the_setup();
     let system = read_conf(alloc, conf, shelf)?;
     let script = read_lines(alloc, &system, script, schedule, shelf)?;
     Ok(Files { system, script })

@@ -8,15 +8,16 @@
 //! gives to play (specs/Setups of `sys_build`), and what is written are the reports of the phases to
 //! which the machine of `core_machine` comes on them (specs/Written), each as soon as it has ended.
 //! A run is refused as a play is, and where its script has a `!` line; what it writes are the reports
-//! of some legal phases. Which ones isn't promised: today they are those of the play. A check is
+//! of some legal phases. Which ones isn't promised: each actor has a thread of its own. A check is
 //! refused as a play of its files is, and writes `ok` where they can be played.
 //!
-//! `words` reads the command line, `files` the files, `write` plays, runs and writes, `status` is how the
-//! program ends, `laws` what files say. Other laws of `top` stand in the crate `top_laws`.
+//! `words` reads the command line, `files` the files, `write` plays and writes, `run` runs, by threads,
+//! `status` is how the program ends, `laws` what files say. Other laws of `top` stand in the crate `top_laws`.
 #![tactic(auto)]
 
 mod files;
 pub mod laws;
+mod run;
 mod status;
 pub mod top;
 mod words;

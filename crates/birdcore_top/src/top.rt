@@ -5,31 +5,35 @@ ghost use Rattle.birdcore_top.specs.Command.{Check, Play, Run, command_of};
 
 use crate::files::{Files, read_conf, read_files};
 use crate::laws::files_have_one_outcome;
+use crate::run::write_run;
 use crate::status::Status;
 use crate::words::{Asked, asked_by};
-use crate::write::{write_accepted, write_play, write_run};
+use crate::write::{write_accepted, write_play};
 use outside_io::{Gate, Shelf, Sink};
 use report::Form;
 use std::alloc::Global;
 use std::random::RandomSource;
+use std::sync::Wait;
+use std::thread::Threads;
 
 /// Does all that the program does: plays or runs the script over the configuration that the words
 /// name, and writes the report, phase by phase, in the form that they ask for; or checks a
 /// configuration, perhaps with a script over it, and writes `ok` where they are accepted.
 ///
 /// The reports of a play are those to which the machine comes on the lines as they are written. Those
-/// of a run are legal, and no more is promised of them; today one thread does all its lines.
+/// of a run are legal, and no more is promised of them: each actor has a thread of its own, which
+/// passes the gate. Where there are pipes one thread does all lines.
 ///
 /// What it answers and what stands written are one record of eleven promises (`specs/Answered`).
 /// Want of memory may come in place of any answer; where a script is to be played or run, also for
 /// want of random bytes.
-pub fn top<R: RandomSource, F: Shelf, K: Sink, G: Gate + Sync>(
+pub fn top<R: RandomSource + Threads + Wait + Sync, F: Shelf, K: Sink, G: Gate + Sync>(
     rt: &R,
     alloc: Global,
     words: &[String],
     shelf: &mut F,
     out: &mut K,
-    _gate: &G,
+    gate: &G,
 ) -> Status
     ensures { Answered (command_of words.now)
         (shelf_of (F.held shelf.old) (F.lacks shelf.old) (F.missed shelf.old) (F.faults shelf.old))
@@ -38,16 +42,17 @@ pub fn top<R: RandomSource, F: Shelf, K: Sink, G: Gate + Sync>(
         (sink_of (K.contents out.new) (K.faults out.new))
         result }
 {
-    do_asked(rt, alloc, words, shelf, out)
+    do_asked(rt, alloc, words, shelf, out, gate)
 }
 
 /// Does what the words ask for.
-fn do_asked<R: RandomSource, F: Shelf, K: Sink>(
+fn do_asked<R: RandomSource + Threads + Wait + Sync, F: Shelf, K: Sink, G: Gate + Sync>(
     rt: &R,
     alloc: Global,
     words: &[String],
     shelf: &mut F,
     out: &mut K,
+    gate: &G,
 ) -> Status
     ensures { Answered (command_of words.now)
         (shelf_of (F.held shelf.old) (F.lacks shelf.old) (F.missed shelf.old) (F.faults shelf.old))
@@ -72,7 +77,7 @@ fn do_asked<R: RandomSource, F: Shelf, K: Sink>(
                 cells,
                 form,
             },
-        ) => { run_files(rt, alloc, conf, script, cells, form, shelf, out) }
+        ) => { run_files(rt, alloc, gate, conf, script, cells, form, shelf, out) }
         Some(Asked::CheckOne { conf }) => check_conf(alloc, conf, shelf, out),
         Some(Asked::CheckBoth { conf, script }) => check_files(alloc, conf, script, shelf, out),
         None => Status::Usage,
@@ -105,9 +110,10 @@ fn play_files<R: RandomSource, F: Shelf, K: Sink>(
 }
 
 /// Reads the two files, runs them, and writes the report. The script may not schedule.
-fn run_files<R: RandomSource, F: Shelf, K: Sink>(
+fn run_files<R: RandomSource + Threads + Wait + Sync, F: Shelf, K: Sink, G: Gate + Sync>(
     rt: &R,
     alloc: Global,
+    gate: &G,
     conf: &str,
     script: &str,
     cells: u32,
@@ -124,7 +130,9 @@ fn run_files<R: RandomSource, F: Shelf, K: Sink>(
 {
     files_have_one_outcome();
     match read_files(alloc, conf, script, false, shelf) {
-        Ok(Files { system, script }) => write_run(rt, alloc, &system, cells, form, script, out),
+        Ok(Files { system, script }) => write_run(
+            rt, alloc, gate, &system, cells, form, script, out,
+        ),
         Err(status) => status,
     }
 }

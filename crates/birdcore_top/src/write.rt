@@ -1,5 +1,5 @@
-//! Plays or runs a script over a configuration, and writes the report of each phase when it has
-//! ended; and what is written of a check.
+//! Plays a script over a configuration, and writes the report of each phase when it has ended; and
+//! what is written of a check.
 ghost use Rattle.std.specs.Prelude.{◌≡◌, ◌⊎◌, ◌≤◌, [], All, Err, length, map, IfErr, OnOk};
 ghost use Rattle.std.specs.Io.KnownBytes.{Appends, Keeps};
 ghost use Rattle.std.specs.List.{flat_map};
@@ -12,13 +12,13 @@ ghost use Rattle.sys_run.specs.Playing as played;
 ghost use Rattle.conf_system.specs.Coded.{AllCanRun, HasCode, CanRunOver};
 ghost use Rattle.conf_system.specs.Seen.{system_of};
 ghost use Rattle.birdcore_top.specs.Answer.{CutsOff, IsEnd};
-ghost use Rattle.birdcore_top.specs.Written.{ArePlayed, AreRun, AskWhatIs, FitTables, HasBegun, HasPlayed, HasWritten, accepted_text, phases_read, setup_read, text_so_far};
+ghost use Rattle.birdcore_top.specs.Inside.{HasWritten, PlayedBy};
+ghost use Rattle.birdcore_top.specs.Written.{ArePlayed, AskWhatIs, FitTables, HasBegun, HasPlayed, accepted_text, phases_read, setup_read, text_so_far};
 
 use crate::status::Status;
 use attrs::Judge;
 use bits_ip::OutOfMemory;
 use conf_system::{Code, System};
-use core_setup::laws::plays_are_legal;
 use outside_io::{Block, Failed, Sink, Stream, write_whole};
 use report::{Form, PhaseReport, text_in};
 use script_lines::{Line, Name};
@@ -73,49 +73,8 @@ pub(crate) fn write_play<R: RandomSource, K: Sink>(
     }
 }
 
-/// Runs the script over the configuration, and writes the reports in this form.
-///
-/// They are those of some legal phases, one for each phase of the script: which ones isn't promised.
-/// Today one thread does all lines in the order in which they are written, as a play does. Want of
-/// memory is told as there.
-pub(crate) fn write_run<R: RandomSource, K: Sink>(
-    rt: &R,
-    alloc: Global,
-    system: &System,
-    cells: u32,
-    form: Form,
-    script: ReadScript,
-    out: &mut K,
-) -> Status
-    requires playable { IsPlayable (system_of system.now) }
-    requires ordered { AllCanRun system.now }
-    requires before { All (CanRunOver system.now) script.filters.items }
-    requires setup { IsSetup (setup_read system.now script cells) }
-    requires asked { AskWhatIs (length script.queries.items) (phases_read script) }
-    requires fits { FitTables (setup_read system.now script cells) (phases_read script) }
-    ensures end { IsEnd result }
-    ensures report { result ≡ Status.Ok
-        → HasPlayed (AreRun (setup_read system.now script cells) script.actors.items)
-        (phases_read script)
-        (λ reports. Appends (K.contents out.old) (K.contents out.new) (report_text form reports)) }
-    ensures front { result ≡ Status.WriteFault
-        → HasBegun (AreRun (setup_read system.now script cells) script.actors.items)
-        (phases_read script)
-        (λ more reports.
-        WritesFront (K.contents out.old) (K.contents out.new) (text_so_far form more reports)) }
-    ensures begun { result ≡ Status.OutOfMemory
-        → HasBegun (AreRun (setup_read system.now script cells) script.actors.items)
-        (phases_read script)
-        (λ more reports.
-        Appends (K.contents out.old) (K.contents out.new) (flat_map (text_in form) reports)) }
-    ensures write { result ≡ Status.WriteFault → Rose (K.faults out.old) (K.faults out.new) }
-{
-    plays_are_legal();
-    write_play(rt, alloc, system, cells, form, script, out)
-}
-
 /// Plays the script over the configuration and its code, and writes the reports.
-fn play_coded<K: Sink>(
+pub(crate) fn play_coded<K: Sink>(
     alloc: Global,
     hasher: RandomState,
     system: &System,
@@ -186,8 +145,8 @@ fn write_phases<J: Judge, K: Sink>(
         × FitTables setup (map (λ phase. phase.items) phases.items) }
     ensures played { OnOk result ((setup : Setup)
         → played.HasPlayed J.verdict setup actors.now [] [] core.old
-        → HasWritten J.verdict setup actors.now (map (λ phase. phase.items) phases.items) form core.new
-        (K.contents out.old) (K.contents out.new)) }
+        → HasWritten (PlayedBy J.verdict setup actors.now core.new) setup
+        (map (λ phase. phase.items) phases.items) form (K.contents out.old) (K.contents out.new)) }
     ensures cut { IfErr result CutsOff }
     ensures front { result ≡ Err Status.WriteFault → (setup : Setup)
         → played.HasPlayed J.verdict setup actors.now [] [] core.old
@@ -210,7 +169,7 @@ fn write_phases<J: Judge, K: Sink>(
 }
 
 /// Writes the report of one phase. Memory is wanted for a block alone, before anything is written.
-fn write_phase<K: Sink>(
+pub(crate) fn write_phase<K: Sink>(
     alloc: Global,
     form: Form,
     report: &PhaseReport,
@@ -254,7 +213,7 @@ pub(crate) fn write_accepted<K: Sink>(out: &mut K) -> Status
 }
 
 /// Writes the last line of all.
-fn write_line<K: Sink>(line: &[u8], out: &mut K) -> Status
+pub(crate) fn write_line<K: Sink>(line: &[u8], out: &mut K) -> Status
     ensures end { (result ≡ Status.Ok) ⊎ (result ≡ Status.WriteFault) }
     ensures whole { result ≡ Status.Ok
         → Appends (K.contents out.old) (K.contents out.new) line.now }

@@ -6,10 +6,18 @@ use crate::plays::{done, files_with, status_of, text_of};
 use birdcore_top::Status;
 use outside_io::MemFile;
 use std::io;
+use std::random::RandomSource;
+use std::sync::Wait;
+use std::thread::Threads;
 
 /// What the program answers to these words over these files, and `ok` where it writes that.
-fn checked(rt: &HostRuntime, files: Vec<MemFile>, words: &str) -> io::Result<String> {
-    let (status, text) = done(rt, files, words)?;
+fn checked<T: RandomSource + Threads + Wait + Sync>(
+    rt: &HostRuntime,
+    threads: &T,
+    files: Vec<MemFile>,
+    words: &str,
+) -> io::Result<String> {
+    let (status, text) = done(rt, threads, files, words)?;
     if status == Status::Ok && text.as_slice() == b"ok\n".as_slice() {
         Ok(String::from_str(rt.alloc(), "ok")?)
     } else {
@@ -18,14 +26,23 @@ fn checked(rt: &HostRuntime, files: Vec<MemFile>, words: &str) -> io::Result<Str
 }
 
 /// What the check of an input answers.
-pub fn answer(rt: &HostRuntime, input: &[u8]) -> io::Result<String> {
+pub fn answer<T: RandomSource + Threads + Wait + Sync>(
+    rt: &HostRuntime,
+    threads: &T,
+    input: &[u8],
+) -> io::Result<String> {
     let text = text_of(input)?;
     match text.split_once(" @@ ") {
         Some((conf, script)) => {
             let files = files_with(rt.alloc(), conf, script)?;
-            checked(rt, files, "check conf script")
+            checked(rt, threads, files, "check conf script")
         }
-        None => checked(rt, files_with(rt.alloc(), text, "none")?, "check conf"),
+        None => checked(
+            rt,
+            threads,
+            files_with(rt.alloc(), text, "none")?,
+            "check conf",
+        ),
     }
 }
 
@@ -39,14 +56,24 @@ fn beside(rt: &HostRuntime, played: String, wanted: bool, checked: &str) -> io::
 }
 
 /// The status of a play, where the check of its files has the same.
-pub fn checked_so(rt: &HostRuntime, played: String, files: Vec<MemFile>) -> io::Result<String> {
-    let checked = checked(rt, files, "check conf script")?;
+pub fn checked_so<T: RandomSource + Threads + Wait + Sync>(
+    rt: &HostRuntime,
+    threads: &T,
+    played: String,
+    files: Vec<MemFile>,
+) -> io::Result<String> {
+    let checked = checked(rt, threads, files, "check conf script")?;
     let wanted = checked.as_str() == played.as_str();
     beside(rt, played, wanted, checked.as_str())
 }
 
 /// What a play wrote, where the check of its files writes `ok`.
-pub fn also_checked(rt: &HostRuntime, played: String, files: Vec<MemFile>) -> io::Result<String> {
-    let checked = checked(rt, files, "check conf script")?;
+pub fn also_checked<T: RandomSource + Threads + Wait + Sync>(
+    rt: &HostRuntime,
+    threads: &T,
+    played: String,
+    files: Vec<MemFile>,
+) -> io::Result<String> {
+    let checked = checked(rt, threads, files, "check conf script")?;
     beside(rt, played, checked.as_str() == "ok", checked.as_str())
 }

@@ -9,6 +9,9 @@ mod replies;
 use cases::{Case, Tally, read};
 use std::io;
 use std::process::ExitCode;
+use std::random::RandomSource;
+use std::sync::Wait;
+use std::thread::Threads;
 
 /// What the inputs of a table are, and what is expected of them.
 #[derive(Clone, Copy, Debug, Drop)]
@@ -27,32 +30,42 @@ enum Sort {
     Reports,
     /// The names of two files, and the report's name.
     Plays,
-    /// The same of a run.
+    /// The same of a run, which is tried a hundred times.
     Runs,
     /// The names of two files and a query, and the reply.
     Replies,
 }
 
-fn answer(rt: &HostRuntime, sort: Sort, case: &Case) -> io::Result<String> {
+fn answer<T: RandomSource + Threads + Wait + Sync>(
+    rt: &HostRuntime,
+    threads: &T,
+    sort: Sort,
+    case: &Case,
+) -> io::Result<String> {
     let name = case.expected.as_str();
     let input = case.input.as_slice();
     match sort {
-        Sort::Texts => plays::answer(rt, input),
-        Sort::Scripts => plays::refusal(rt, input),
-        Sort::Barred => plays::barred(rt, input),
-        Sort::Checks => checks::answer(rt, input),
-        Sort::Words => plays::words(rt, name, input),
-        Sort::Reports => plays::report(rt, name, input),
-        Sort::Plays => plays::play(rt, "play", name, input),
-        Sort::Runs => plays::play(rt, "run", name, input),
-        Sort::Replies => replies::reply(rt, input),
+        Sort::Texts => plays::answer(rt, threads, input),
+        Sort::Scripts => plays::refusal(rt, threads, input),
+        Sort::Barred => plays::barred(rt, threads, input),
+        Sort::Checks => checks::answer(rt, threads, input),
+        Sort::Words => plays::words(rt, threads, name, input),
+        Sort::Reports => plays::report(rt, threads, name, input),
+        Sort::Plays => plays::play(rt, threads, "play", name, input),
+        Sort::Runs => plays::runs(rt, threads, name, input),
+        Sort::Replies => replies::reply(rt, threads, input),
     }
 }
 
-fn are_as_expected(rt: &HostRuntime, sort: Sort, name: &str) -> io::Result<bool> {
+fn are_as_expected<T: RandomSource + Threads + Wait + Sync>(
+    rt: &HostRuntime,
+    threads: &T,
+    sort: Sort,
+    name: &str,
+) -> io::Result<bool> {
     let mut tally = Tally::new(name);
     for case in read(rt, name)?.iter() {
-        let answer = answer(rt, sort, case)?;
+        let answer = answer(rt, threads, sort, case)?;
         tally.note(rt, case, answer.as_str())?;
     }
     tally.finish(rt)
@@ -73,7 +86,7 @@ fn main(rt: HostRuntime) -> io::Result<ExitCode> {
     ];
     let mut good = true;
     for (sort, name) in tables {
-        good = are_as_expected(&rt, sort, name)? && good;
+        good = are_as_expected(&rt, &rt, sort, name)? && good;
     }
     Ok(if good {
         ExitCode::SUCCESS

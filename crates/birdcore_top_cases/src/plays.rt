@@ -10,6 +10,9 @@ use birdcore_top::top::top;
 use outside_io::{MemFile, MemShelf, MemSink, OpenGate};
 use std::alloc::Global;
 use std::io::{Error, ErrorKind};
+use std::random::RandomSource;
+use std::sync::Wait;
+use std::thread::Threads;
 use std::{fs, io, str};
 
 /// The error of a case that isn't in the notation.
@@ -69,12 +72,17 @@ fn words_of(alloc: Global, text: &str) -> io::Result<Vec<String>> {
 }
 
 /// The status of the program with these words over these files, and what was written.
-pub fn done(rt: &HostRuntime, files: Vec<MemFile>, words: &str) -> io::Result<(Status, Vec<u8>)> {
+pub fn done<T: RandomSource + Threads + Wait + Sync>(
+    rt: &HostRuntime,
+    threads: &T,
+    files: Vec<MemFile>,
+    words: &str,
+) -> io::Result<(Status, Vec<u8>)> {
     let alloc = rt.alloc();
     let words = words_of(alloc, words)?;
     let mut shelf = MemShelf::new(alloc, files);
     let mut sink = MemSink::new(alloc);
-    let status = top(rt, alloc, &words, &mut shelf, &mut sink, &OpenGate);
+    let status = top(threads, alloc, &words, &mut shelf, &mut sink, &OpenGate);
     Ok((status, sink.bytes))
 }
 
@@ -113,11 +121,15 @@ fn compared(rt: &HostRuntime, name: &str, status: Status, text: &[u8]) -> io::Re
 }
 
 /// The status of the play of an input.
-pub fn answer(rt: &HostRuntime, input: &[u8]) -> io::Result<String> {
+pub fn answer<T: RandomSource + Threads + Wait + Sync>(
+    rt: &HostRuntime,
+    threads: &T,
+    input: &[u8],
+) -> io::Result<String> {
     let files = files_of(rt.alloc(), input)?;
-    let (status, text) = done(rt, files, "play conf script")?;
+    let (status, text) = done(rt, threads, files, "play conf script")?;
     let played = status_of(rt, status, text.as_slice())?;
-    checked_so(rt, played, files_of(rt.alloc(), input)?)
+    checked_so(rt, threads, played, files_of(rt.alloc(), input)?)
 }
 
 fn script_over(rt: &HostRuntime, input: &[u8]) -> io::Result<Vec<MemFile>> {
@@ -130,36 +142,60 @@ fn script_over(rt: &HostRuntime, input: &[u8]) -> io::Result<Vec<MemFile>> {
 }
 
 /// The status of the play of a script, which stands behind the name of a configuration's file.
-pub fn refusal(rt: &HostRuntime, input: &[u8]) -> io::Result<String> {
-    let (status, text) = done(rt, script_over(rt, input)?, "play conf script")?;
+pub fn refusal<T: RandomSource + Threads + Wait + Sync>(
+    rt: &HostRuntime,
+    threads: &T,
+    input: &[u8],
+) -> io::Result<String> {
+    let (status, text) = done(rt, threads, script_over(rt, input)?, "play conf script")?;
     let played = status_of(rt, status, text.as_slice())?;
-    checked_so(rt, played, script_over(rt, input)?)
+    checked_so(rt, threads, played, script_over(rt, input)?)
 }
 
 /// The status of the run of a script, which stands behind the name of a configuration's file.
-pub fn barred(rt: &HostRuntime, input: &[u8]) -> io::Result<String> {
-    let (status, text) = done(rt, script_over(rt, input)?, "run conf script")?;
+pub fn barred<T: RandomSource + Threads + Wait + Sync>(
+    rt: &HostRuntime,
+    threads: &T,
+    input: &[u8],
+) -> io::Result<String> {
+    let (status, text) = done(rt, threads, script_over(rt, input)?, "run conf script")?;
     status_of(rt, status, text.as_slice())
 }
 
 /// What the program answers to these words over two files that are played by `play conf script`,
 /// or what it writes: `ok`, or the name of the expected report.
-pub fn words(rt: &HostRuntime, name: &str, input: &[u8]) -> io::Result<String> {
+pub fn words<T: RandomSource + Threads + Wait + Sync>(
+    rt: &HostRuntime,
+    threads: &T,
+    name: &str,
+    input: &[u8],
+) -> io::Result<String> {
     let files = files_at(rt, "one_peer.conf", "one_route.script")?;
-    let (status, text) = done(rt, files, text_of(input)?)?;
+    let (status, text) = done(rt, threads, files, text_of(input)?)?;
     compared(rt, name, status, text.as_slice())
 }
 
 /// Which report the play of an input writes.
-pub fn report(rt: &HostRuntime, name: &str, input: &[u8]) -> io::Result<String> {
+pub fn report<T: RandomSource + Threads + Wait + Sync>(
+    rt: &HostRuntime,
+    threads: &T,
+    name: &str,
+    input: &[u8],
+) -> io::Result<String> {
     let files = files_of(rt.alloc(), input)?;
-    let (status, text) = done(rt, files, "play conf script")?;
+    let (status, text) = done(rt, threads, files, "play conf script")?;
     let played = compared(rt, name, status, text.as_slice())?;
-    also_checked(rt, played, files_of(rt.alloc(), input)?)
+    also_checked(rt, threads, played, files_of(rt.alloc(), input)?)
 }
 
 /// Which report the command of this word, `play` or `run`, writes of files of these names.
-pub fn play(rt: &HostRuntime, word: &str, name: &str, input: &[u8]) -> io::Result<String> {
+pub fn play<T: RandomSource + Threads + Wait + Sync>(
+    rt: &HostRuntime,
+    threads: &T,
+    word: &str,
+    name: &str,
+    input: &[u8],
+) -> io::Result<String> {
     let (conf, rest) = text_of(input)?.split_once(' ').ok_or(bad_line())?;
     let (script, more) = rest.split_once(' ').unwrap_or((rest, ""));
     let files = files_at(rt, conf, script)?;
@@ -167,7 +203,23 @@ pub fn play(rt: &HostRuntime, word: &str, name: &str, input: &[u8]) -> io::Resul
     if !more.is_empty() {
         words = format!(in rt.alloc(); "{word} conf script {more}")?;
     }
-    let (status, text) = done(rt, files, words.as_str())?;
+    let (status, text) = done(rt, threads, files, words.as_str())?;
     let played = compared(rt, name, status, text.as_slice())?;
-    also_checked(rt, played, files_at(rt, conf, script)?)
+    also_checked(rt, threads, played, files_at(rt, conf, script)?)
+}
+
+/// Which report a run of files of these names writes, each of a hundred times: the first other one.
+pub fn runs<T: RandomSource + Threads + Wait + Sync>(
+    rt: &HostRuntime,
+    threads: &T,
+    name: &str,
+    input: &[u8],
+) -> io::Result<String> {
+    for _ in 0..99 {
+        let written = play(rt, threads, "run", name, input)?;
+        if written.as_str() != name {
+            return Ok(written);
+        }
+    }
+    play(rt, threads, "run", name, input)
 }

@@ -6,6 +6,9 @@ use crate::plays::{bad_line, done, put_file, status_of, text_of};
 use birdcore_top::Status;
 use outside_io::MemFile;
 use std::alloc::Global;
+use std::random::RandomSource;
+use std::sync::Wait;
+use std::thread::Threads;
 use std::{fs, io};
 
 /// The two files, with the query behind the script.
@@ -42,9 +45,18 @@ fn reply_in(report: &str) -> io::Result<&str> {
 }
 
 /// The reply to the query of an input, with its heading.
-pub fn reply(rt: &HostRuntime, input: &[u8]) -> io::Result<String> {
+pub fn reply<T: RandomSource + Threads + Wait + Sync>(
+    rt: &HostRuntime,
+    threads: &T,
+    input: &[u8],
+) -> io::Result<String> {
     let (names, query) = text_of(input)?.split_once(" @@ ").ok_or(bad_line())?;
-    let (status, text) = done(rt, files_asked(rt, names, query)?, "play conf script")?;
+    let (status, text) = done(
+        rt,
+        threads,
+        files_asked(rt, names, query)?,
+        "play conf script",
+    )?;
     if status != Status::Ok {
         return status_of(rt, status, text.as_slice());
     }

@@ -9,12 +9,14 @@ use birdcore_top::top::top;
 use outside_io::{OpenGate, Shelf, SureShelf, SureSink};
 use std::alloc::Global;
 use std::random::RandomSource;
+use std::sync::Wait;
+use std::thread::Threads;
 
 /// Does what the words ask for over the files of a shelf that never fails, and lets what is written
 /// go to a sink that takes all.
 ///
 /// No fault is answered then: it is what words and files require, or want of memory.
-pub fn do_surely<R: RandomSource>(
+pub fn do_surely<R: RandomSource + Threads + Wait + Sync>(
     rt: &R,
     alloc: Global,
     words: &[String],

@@ -4,7 +4,7 @@ use Rattle.conf_system.specs.Seen.{filter_says, system_of}
 use Rattle.birdcore_top.specs.Outcome.{Played}
 use Rattle.birdcore_top.specs.Written.{phases_read, setup_read}
 use Rattle.birdcore_top.specs.declared.status.Status.{Status}
-use Rattle.birdcore_top.proofs.Asking.{all_ask}
+use Rattle.birdcore_top.proofs.Asking.{all_ask, all_name_some}
 use Rattle.birdcore_top.proofs.Joined.{conf_stopped, err_is, in_turn, lacked_script, over, script_stopped, stops_as}
 use Rattle.birdcore_top.proofs.files.read_files.Goals as goal
 
@@ -45,6 +45,14 @@ returns-clause-setup g c = λ cells.
 pub returns-clause-asked : goal.returns-clause-asked
 returns-clause-asked g c =
     all_ask (named_of (system_of c.in_ok-system.system) c.args.schedule) c.in_ok-script.script.actors.items (length c.in_ok-script.script.queries.items) (phases_read c.in_ok-script.script)
+    (c.accepted_scripts_name_what_is.ensures.lines (system_of c.in_ok-system.system) c.args.schedule c.in_ok-script.ensures.answers.0 (phases_read c.in_ok-script.script) c.in_ok-script.script.actors.items
+    c.in_ok-script.script.queries.items (map (filter_says c.in_ok-system.system) c.in_ok-script.script.filters.items) c.in_ok-script.ensures.answers.1)
+
+pub returns-clause-named : goal.returns-clause-named
+returns-clause-named g c = λ cells.
+    all_name_some (named_of (system_of c.in_ok-system.system) c.args.schedule) c.in_ok-script.script.actors.items (system_of c.in_ok-system.system) cells
+    (map (filter_says c.in_ok-system.system) c.in_ok-script.script.filters.items) c.in_ok-script.script.queries.items (phases_read c.in_ok-script.script)
+    (c.names_count_as_the_setup.ensures.protocols (system_of c.in_ok-system.system) c.args.schedule cells (map (filter_says c.in_ok-system.system) c.in_ok-script.script.filters.items) c.in_ok-script.script.queries.items)
     (c.accepted_scripts_name_what_is.ensures.lines (system_of c.in_ok-system.system) c.args.schedule c.in_ok-script.ensures.answers.0 (phases_read c.in_ok-script.script) c.in_ok-script.script.actors.items
     c.in_ok-script.script.queries.items (map (filter_says c.in_ok-system.system) c.in_ok-script.script.filters.items) c.in_ok-script.ensures.answers.1)
 

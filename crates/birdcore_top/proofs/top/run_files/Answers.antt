@@ -19,4 +19,7 @@ returns-in-Err g c =
     (record { conf_lacked = c.in-Err.ensures.absent.0; script_lacked = c.in-Err.ensures.absent.1 }) (Keeps-refl _)
 
 pub write_run-requires-clause-fits : goal.write_run-requires-clause-fits
-write_run-requires-clause-fits g c = c.in-Ok.ensures.fits c.args.cells
+write_run-requires-clause-fits g c κs within = c.in-Ok.ensures.fits c.args.cells
+
+pub write_run-requires-clause-named : goal.write_run-requires-clause-named
+write_run-requires-clause-named g c κs within = c.in-Ok.ensures.named c.args.cells

@@ -5,10 +5,11 @@ use Rattle.std.specs.Global.{Global}
 use Rattle.script_lines.specs.declared.script.Line.{Line}
 use Rattle.std.specs.List.{All}
 use Rattle.sys_run.specs.Scripts.{AsksWhatIs, FitsLine, phase_of}
-use Rattle.birdcore_top.specs.Written.{HasWritten}
+use Rattle.birdcore_top.specs.Inside.{HasWritten, PlayedBy}
+use Rattle.birdcore_top.specs.Written.{ArePlayed}
 use Rattle.birdcore_top.specs.declared.status.Status.{Status}
 use Rattle.birdcore_top.proofs.Joined.{err_is, rose_since}
-use Rattle.birdcore_top.proofs.Writing.{asked_next, cut_between, few_so_far, cut_in_phase, phase_more, split, split_behind}
+use Rattle.birdcore_top.proofs.Writing.{asked_next, cut_between, few_so_far, cut_in_phase, is_play, phase_more, split, split_behind}
 use Rattle.birdcore_top.proofs.write.write_phases.Goals as goal
 
 pub play-requires : goal.play-requires
@@ -30,7 +31,7 @@ play-requires g c =
 
 pub returns-in_err-report-clause-begun : goal.returns-in_err-report-clause-begun
 returns-in_err-report-clause-begun g c = λ is setup start.
-    cut_between g.J.Judge.verdict setup c.args.actors.now c.args.form (map (λ phase. phase.items) c.loop-lines.yielded) c.loop-lines.core _ _ _ (c.loop-lines.invariant.so_far setup start)
+    cut_between setup c.args.form (PlayedBy g.J.Judge.verdict setup c.args.actors.now c.loop-lines.core) (ArePlayed setup c.args.actors.now) (is_play g.J.Judge.verdict setup c.args.actors.now c.loop-lines.core) (map (λ phase. phase.items) c.loop-lines.yielded) _ _ _ (c.loop-lines.invariant.so_far setup start)
     (map (λ phase. phase.items) c.args.phases.items) (map (λ phase. phase.items) c.loop-lines.lines-iterator.rest.items)
     (split (λ (phase : Vec Line Global). phase.items) c.loop-lines.yielded c.loop-lines.lines-iterator.rest.items c.args.phases.items c.loop-lines.invariant.whole) (Keeps-refl _)
 
@@ -38,10 +39,10 @@ pub loop-lines-preserved : goal.loop-lines-preserved
 loop-lines-preserved g c = record {
   so_far = λ setup start.
       let done = c.loop-lines.invariant.so_far setup start in
-      subst (λ (l : List (List Line)). HasWritten g.J.Judge.verdict setup c.args.actors.now l c.args.form c.play.new.self (g.K.Sink.contents c.args.out.now) (g.K.Sink.contents c.write_phase.new.out))
+      subst (λ (l : List (List Line)). HasWritten (PlayedBy g.J.Judge.verdict setup c.args.actors.now c.play.new.self) setup l c.args.form (g.K.Sink.contents c.args.out.now) (g.K.Sink.contents c.write_phase.new.out))
       (sym (map-append (λ (phase : Vec Line Global). phase.items) c.loop-lines.yielded (c.in-Some.lines ∷ [])))
-      (phase_more g.J.Judge.verdict setup c.args.actors.now c.args.form (map (λ phase. phase.items) c.loop-lines.yielded) c.in-Some.lines.items c.loop-lines.core c.play.new.self c.in_ok-report.report
-      _ _ _ done (c.in_ok-report.ensures setup _ done.reports done.played) c.in_ok-write_phase.ensures.whole);
+      (phase_more setup c.args.form (PlayedBy g.J.Judge.verdict setup c.args.actors.now c.loop-lines.core) (PlayedBy g.J.Judge.verdict setup c.args.actors.now c.play.new.self)
+      (map (λ phase. phase.items) c.loop-lines.yielded) c.in-Some.lines.items c.in_ok-report.report _ _ _ done (c.in_ok-report.ensures setup _ done.reports done.played) c.in_ok-write_phase.ensures.whole);
   whole = append_assoc c.loop-lines.yielded (c.in-Some.lines ∷ []) c.next.new.self.rest.items ∙ ap (λ (l : List (Vec Line Global)). c.loop-lines.yielded ++ l) (sym c.in-Some.ensures.steps.0)
       ∙ c.loop-lines.invariant.whole;
   later = omega (arith, c.loop-lines.invariant.later, c.in_ok-write_phase.ensures.later);
@@ -52,8 +53,9 @@ returns-in_err-write_phase-clause-front g c = λ is setup start.
     let done = c.loop-lines.invariant.so_far setup start in
     let failed = err_is c.from_residual-in_err-write_phase.result c.in_err-write_phase.field-0.0 _ c.from_residual-in_err-write_phase.ensures.1 is in
     let rest = ap (λ (l : List (Vec Line Global)). c.loop-lines.yielded ++ l) (sym c.in-Some.ensures.steps.0) ∙ c.loop-lines.invariant.whole in
-    cut_in_phase g.J.Judge.verdict setup c.args.actors.now c.args.form (map (λ phase. phase.items) c.loop-lines.yielded) c.in-Some.lines.items c.loop-lines.core c.play.new.self c.in_ok-report.report
-    _ _ _ done (c.in_ok-report.ensures setup _ done.reports done.played)
+    cut_in_phase setup c.args.form (PlayedBy g.J.Judge.verdict setup c.args.actors.now c.loop-lines.core) (PlayedBy g.J.Judge.verdict setup c.args.actors.now c.play.new.self)
+    (map (λ phase. phase.items) c.loop-lines.yielded) c.in-Some.lines.items c.in_ok-report.report _ _ _ done (c.in_ok-report.ensures setup _ done.reports done.played)
+    (ArePlayed setup c.args.actors.now) (is_play g.J.Judge.verdict setup c.args.actors.now c.play.new.self)
     (map (λ phase. phase.items) c.args.phases.items) (map (λ phase. phase.items) c.next.new.self.rest.items)
     (split_behind (λ (phase : Vec Line Global). phase.items) c.loop-lines.yielded c.in-Some.lines c.next.new.self.rest.items c.args.phases.items rest)
     (c.in_err-write_phase.ensures.front (ap (λ (s : Status). Err s) failed))
@@ -61,7 +63,7 @@ returns-in_err-write_phase-clause-front g c = λ is setup start.
 pub returns-in_err-write_phase-clause-begun : goal.returns-in_err-write_phase-clause-begun
 returns-in_err-write_phase-clause-begun g c = λ is setup start.
     let failed = err_is c.from_residual-in_err-write_phase.result c.in_err-write_phase.field-0.0 _ c.from_residual-in_err-write_phase.ensures.1 is in
-    cut_between g.J.Judge.verdict setup c.args.actors.now c.args.form (map (λ phase. phase.items) c.loop-lines.yielded) c.loop-lines.core _ _ _ (c.loop-lines.invariant.so_far setup start)
+    cut_between setup c.args.form (PlayedBy g.J.Judge.verdict setup c.args.actors.now c.loop-lines.core) (ArePlayed setup c.args.actors.now) (is_play g.J.Judge.verdict setup c.args.actors.now c.loop-lines.core) (map (λ phase. phase.items) c.loop-lines.yielded) _ _ _ (c.loop-lines.invariant.so_far setup start)
     (map (λ phase. phase.items) c.args.phases.items) (map (λ phase. phase.items) c.loop-lines.lines-iterator.rest.items)
     (split (λ (phase : Vec Line Global). phase.items) c.loop-lines.yielded c.loop-lines.lines-iterator.rest.items c.args.phases.items c.loop-lines.invariant.whole)
     (c.in_err-write_phase.ensures.nothing (ap (λ (s : Status). Err s) failed))

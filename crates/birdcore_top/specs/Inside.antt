@@ -1,0 +1,88 @@
+-- For private contracts alone: what is written while phases are played (`PlayedBy`) or run by
+-- threads (`RunBy`), phase by phase (`HasWritten`, `RunsOne`), and how a run ends (`Ends`).
+use Rattle.std.specs.Prelude.{◌≡◌, ℕ, List, [], ◌∷◌, ◌++◌, map, Option, ⊤}
+use Rattle.std.specs.Io.KnownBytes.{Appends}
+use Rattle.std.specs.List.{flat_map}
+use Rattle.attrs.specs.declared.judge.Verdict.{Verdict}
+use Rattle.attrs.specs.declared.route.Route.{Route}
+use Rattle.bits_ip.specs.Prefix.{Net}
+use Rattle.core_machine.specs.Lines as machine
+use Rattle.core_setup.specs.Setup.{Setup}
+use Rattle.outside_io.specs.Faults.{Rose}
+use Rattle.outside_io.specs.Whole.{WritesFront}
+use Rattle.report.specs.Report.{report_text, text_in}
+use Rattle.report.specs.declared.phase.Form.{Form}
+use Rattle.report.specs.declared.phase.PhaseReport.{PhaseReport}
+use Rattle.script_lines.specs.declared.script.Line.{Line}
+use Rattle.sys_run.specs.Playing as core
+use Rattle.sys_run.specs.Scripts.{phase_of}
+use Rattle.sys_run.specs.declared.player.Core.{Core}
+use Rattle.sys_threads.specs.Running as threads
+use Rattle.sys_threads.specs.declared.fault.RunFault.{RunFault}
+use Rattle.sys_threads.specs.declared.fault.RunFault.TheVariants as faults
+use Rattle.sys_threads.specs.declared.runner.Runner.{Runner}
+use Rattle.birdcore_top.specs.Answer.{CutsOff, IsEnd}
+use Rattle.birdcore_top.specs.Written.{HasBegun, HasPlayed, text_so_far}
+use Rattle.birdcore_top.specs.declared.run.Stop.{Stop}
+use Rattle.birdcore_top.specs.declared.run.Stop.TheVariants.{Late, With}
+use Rattle.birdcore_top.specs.declared.status.Status.{Status}
+use Rattle.birdcore_top.specs.declared.status.Status.TheVariants.{Ok, OutOfMemory, WriteFault}
+
+module _ {J : Type 0} (verdict : J → Net → Route → Verdict) (setup : Setup) (actors : List (List ℕ))
+  where
+    -- what a core has played
+    abbrev pub PlayedBy : Core J → List (List machine.Line) → List PhaseReport → Type 0
+    PlayedBy now scripts reports = core.HasPlayed verdict setup actors scripts reports now
+
+    -- what a runner has run
+    abbrev pub RunBy : Runner J → List (List machine.Line) → List PhaseReport → Type 0
+    RunBy now scripts reports = threads.HasRun verdict setup actors scripts reports now
+
+-- Phases have been played or run, as is said of their scripts and reports, and the texts of the
+-- reports are written.
+pub record HasWritten
+    (Has : List (List machine.Line) → List PhaseReport → Type 0) (setup : Setup)
+    (phases : List (List Line)) (form : Form) (before after : Option (List ℕ)) : Type 0 where
+  pub reports : List PhaseReport
+  pub played : Has (map (phase_of setup.queries) phases) reports
+  pub written : Appends before after (flat_map (text_in form) reports)
+
+-- ---- runs by threads
+
+-- A phase more is run, and this is said of its report.
+pub record RunsOne
+    {J : Type 0} (verdict : J → Net → Route → Verdict) (actors : List (List ℕ)) (lines : List Line)
+    (runner next : Runner J) (P : PhaseReport → Type 0) : Type 0 where
+  pub report : PhaseReport
+  pub run :
+      (setup : Setup) (scripts : List (List machine.Line)) (reports : List PhaseReport)
+      → RunBy verdict setup actors runner scripts reports
+      → RunBy verdict setup actors next (scripts ++ phase_of setup.queries lines ∷ [])
+      (reports ++ report ∷ [])
+  pub said : P report
+
+-- What a run owes that ended with this status; its output has failed so often before and after.
+pub record Ends
+    (Are : List (List Line) → List PhaseReport → Type 0) (phases : List (List Line)) (form : Form)
+    (before after : Option (List ℕ)) (faults faults_after : ℕ) (status : Status) : Type 0 where
+  pub end : IsEnd status
+  pub report : status ≡ Ok
+      → HasPlayed Are phases (λ reports. Appends before after (report_text form reports))
+  pub front : status ≡ WriteFault
+      → HasBegun Are phases
+      (λ more reports. WritesFront before after (text_so_far form more reports))
+  pub begun : status ≡ OutOfMemory
+      → HasBegun Are phases
+      (λ more reports. Appends before after (flat_map (text_in form) reports))
+  pub write : status ≡ WriteFault → Rose faults faults_after
+
+-- why a run stops where a phase isn't run to its end: so many positions don't fit in memory
+abbrev pub stop_of : RunFault → Stop
+stop_of faults.Late = Late
+stop_of (faults.Ended head) = With OutOfMemory
+stop_of faults.Memory = With OutOfMemory
+
+-- it stops with a status that cuts off what is written
+abbrev pub StopsOff : Stop → Type 0
+StopsOff Late = ⊤
+StopsOff (With status) = CutsOff status
