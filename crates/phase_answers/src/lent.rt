@@ -37,7 +37,8 @@ impl<J: Judge> Judge for Lent<'_, J> {
     }
 }
 
-fn copy_spec(alloc: Global, spec: &ExportSpec) -> Result<ExportSpec, OutOfMemory>
+/// A copy of what a channel sends by.
+pub fn copy_exports(alloc: Global, spec: &ExportSpec) -> Result<ExportSpec, OutOfMemory>
     ensures { IfOk result (λ copy. copy ≡ spec.now) }
 {
     let sources = Vec::from_slice(alloc, spec.sources.as_slice())?;
@@ -64,7 +65,7 @@ pub(crate) fn lend_channel<'p, J: Judge>(
     let Some(exports) = exports else {
         return Ok(None);
     };
-    let spec = copy_spec(alloc, &exports.spec)?;
+    let spec = copy_exports(alloc, &exports.spec)?;
     let judge = Lent::of(&exports.judge);
     Ok(Some(Through { spec, judge }))
 }

@@ -10,4 +10,4 @@ mod lent;
 mod naming;
 
 pub use answering::Answering;
-pub use lent::Lent;
+pub use lent::{Lent, copy_exports};

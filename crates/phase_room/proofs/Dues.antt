@@ -1,6 +1,6 @@
 -- A channel may take the mark that its protocol's operation is due, since both locks tell of the one
 -- journal of marks.
-use Rattle.std.proofs.Common.{◌≡◌, ℕ, suc, ◌+◌, ◌<◌, ◌≤◌, ◌^◌, arith, List, [], ◌∷◌, ◌++◌, false, length, map, reverse, Option, Some, None, refl, sym, ap, subst, ◌∙◌}
+use Rattle.std.proofs.Common.{◌≡◌, ℕ, suc, ◌+◌, ◌<◌, ◌≤◌, ◌^◌, arith, List, [], ◌∷◌, ◌++◌, false, length, map, reverse, Option, Some, None, refl, sym, ap, subst, ◌∙◌, append-nil}
 use Rattle.std.specs.Prelude.{IfErr, IfOk, IfSome, option_map}
 use Rattle.std.specs.declared.result.Result.{Result}
 use Rattle.std.specs.declared.result.Result.TheVariants.{Ok, Err}
@@ -14,10 +14,11 @@ use Rattle.export_core.specs.Standing.{is_open}
 use Rattle.export_core.specs.declared.log.LogItem.{LogItem}
 use Rattle.import_core.specs.declared.operation.Op.{Op}
 use Rattle.import_core.specs.declared.step.Mark.{Mark}
+use Rattle.import_core.specs.declared.step.Mark.TheVariants.{Stay as MarkStay}
 use Rattle.jour_rule.specs.declared.views.Entry.{Entry}
 use Rattle.jour_rule.specs.declared.views.Terms.{Terms}
 use Rattle.jour_rule.specs.declared.views.View.{View as Seat}
-use Rattle.jour.specs.Seats.{front, head_of, journal}
+use Rattle.jour.specs.Seats.{front, head_of, journal, own}
 use Rattle.core_machine.specs.Lines.{Turn}
 use Rattle.core_machine.specs.Rules.{Fits, IsRules, Rules, Signal, Stay, Rise, Fall, Renew, is_up}
 use Rattle.core_machine.specs.Signals.{with_signal, without_sends}
@@ -25,8 +26,8 @@ use Rattle.core_setup.specs.Protocols.{rules_of, signal_of}
 use Rattle.core_setup.specs.Setup.{IsSetup, Setup}
 use Rattle.core_setup.proofs.Numbered.{none_some, some_same}
 use Rattle.table_shared.specs.Opening.{TableOpening}
-use Rattle.phase_legal.specs.Stamps.{AreStamps, item_in, items_in, notices_from, opens}
-use Rattle.phase_legal.specs.Turns.{place_of, told, turns_told}
+use Rattle.phase_legal.specs.Stamps.{AreStamps, item_in, items_in, items_of, mark_words, notices_from, opens}
+use Rattle.phase_legal.specs.Turns.{place_of, told, turns_told, words_in}
 use Rattle.phase_legal.proofs.Stamping.{opens_on, stamps_open, stretch_opens}
 use Rattle.import_lock.specs.Calls.{IsDue}
 use Rattle.import_lock.specs.Kept.{IsFree, IsImports, IsStamped, IsUnlessLost, items_of_stamp, left}
@@ -35,7 +36,7 @@ use Rattle.import_lock.specs.declared.state.ImportState.{ImportState}
 use Rattle.import_lock.specs.declared.state.OpFault.{OpFault}
 use Rattle.import_lock.specs.declared.state.OpRecord.{OpRecord}
 use Rattle.import_lock.specs.declared.state.OpFault.TheVariants.{Memory}
-use Rattle.import_lock.proofs.Marking.{nothing_due}
+use Rattle.import_lock.proofs.Marking.{marked, nothing_due, with_mark}
 use Rattle.export_lock.specs.Kept.{Goes, IsExports, MayMark}
 use Rattle.export_lock.specs.Terms.{ExportTerms}
 use Rattle.export_lock.specs.declared.state.ExportState.{ExportState}
@@ -143,6 +144,28 @@ module _ {J : Type 0} (verdict : J → Net → Route → Verdict) where
       → (key : ImportTerms) (made : List (ℕ × Change)) (op : Op) (ops : List Op) → IsDue verdict key made op ops mark a → IsImports verdict key a
   unmarked_keeps mine its last before mark a is none rest key made op ops due =
       unless_lost a.fault _ (made, nothing_due verdict key made op ops mark a due rest (none_of journal a.stamp (is.importing.marks ∙ none)))
+
+  -- where the operation left the channel as it was, the stamp has marked all
+  stays_due : (key : ImportTerms) (made : List (ℕ × Change)) (op : Op) (earlier : List Op) (mark : Mark) (a : ImportState J) → IsDue verdict key made op earlier mark a → left a ≡ [] → signal_of mark ≡ Stay → IsFree verdict key made a
+  stays_due key made op earlier mark a due rest stay = go a.stamp refl
+    where
+      said : (s : TableId × Seat ℕ) → words_in (own s.1) ≡ words_in (own s.1) ++ map mark_words (items_of (signal_of mark) (head_of a.port.1))
+      said s = sym (append-nil (words_in (own s.1))) ∙ ap (λ z. words_in (own s.1) ++ map mark_words (items_of z (head_of a.port.1))) (sym stay)
+
+      same : (z : Option (TableId × Seat ℕ)) → a.stamp ≡ z
+          → record { importer = a.importer; port = a.port; ops = a.ops; backlog = a.backlog; sent = a.sent; turns = a.turns; stamp = z; fault = a.fault } ≡ a
+      same z is = ap (λ y. record { importer = a.importer; port = a.port; ops = a.ops; backlog = a.backlog; sent = a.sent; turns = a.turns; stamp = y; fault = a.fault }) (sym is)
+
+      go : (z : Option (TableId × Seat ℕ)) → a.stamp ≡ z → IsFree verdict key made a
+      go None is = nothing_due verdict key made op earlier mark a due rest is
+      go (Some s) is =
+          subst (IsFree verdict key made) (same (Some s) is)
+          (marked verdict key made op earlier mark a due rest s s a.port is refl refl refl refl refl (omega arith) (said s))
+
+  pub stayed_keeps : (mark : Mark) (a : ImportState J) → mark ≡ MarkStay → left a ≡ []
+      → (key : ImportTerms) (made : List (ℕ × Change)) (op : Op) (ops : List Op) → IsDue verdict key made op ops mark a → IsImports verdict key a
+  stayed_keeps mark a is rest key made op ops due =
+      unless_lost a.fault _ (made, stays_due key made op ops mark a due rest (ap signal_of is))
 
   -- of any stamp that the value has
   pub may_any : (key : ImportTerms) (channel : ExportTerms) (made : List (ℕ × Change)) (op : Op) (earlier : List Op) (mark : Mark) (a : ImportState J) (b : ExportState J) (table : TableId × Terms TableOpening) → ((setup : Setup) → IsSetup setup → IsRules (rules_of setup))

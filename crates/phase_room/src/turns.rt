@@ -50,7 +50,7 @@ fn mark_channel<R: Wait, J: Judge + Drop, P: Sends>(
 
 impl<J: Judge + Drop, P: Phase + Sends> Session<J, P> {
     /// The same of the session's channel. A static protocol has none, and nothing is to be marked.
-    fn mark<R: Wait>(
+    fn mark_export<R: Wait>(
         &self,
         rt: &R,
         table: &Table,
@@ -70,6 +70,30 @@ impl<J: Judge + Drop, P: Phase + Sends> Session<J, P> {
             Some(export) => mark_channel(rt, table, state, export, mark),
             None => Ok(()),
         }
+    }
+
+    /// The same, but where the operation left the channel as it was nothing is to be marked, and the
+    /// channel's lock isn't waited for.
+    fn mark<R: Wait>(
+        &self,
+        rt: &R,
+        table: &Table,
+        state: &mut ImportState<J>,
+        mark: Mark,
+    ) -> Result<(), OpFault>
+        requires due { (key : ImportTerms) × (made : List (ℕ × Change)) × (op : Op)
+            × (ops : List Op) × IsDue J.verdict key made op ops mark state.old
+            × (key.port ≡ table.now)
+            × IsChannelOf key (channel_terms P.exports self.now) }
+        requires rest { left state.old ≡ [] }
+        ensures kept { (key : ImportTerms) (made : List (ℕ × Change)) (op : Op) (ops : List Op)
+            → IsDue J.verdict key made op ops mark state.old
+            → IsImports J.verdict key state.new }
+    {
+        if let Mark::Stay = mark {
+            return Ok(());
+        }
+        self.mark_export(rt, table, state, mark)
     }
 
     /// The same, once the operation was planned.

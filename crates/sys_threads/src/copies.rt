@@ -1,9 +1,8 @@
-//! Copies of what holds for all routes of a protocol and of a channel.
+//! Copies of what holds for all routes of a protocol.
 ghost use Rattle.std.specs.Prelude.{◌≡◌, IfOk};
 
 use attrs::Seq;
 use bits_ip::OutOfMemory;
-use export_core::ExportSpec;
 use import_core::ImportSpec;
 use std::alloc::Global;
 
@@ -19,19 +18,5 @@ pub(crate) fn copy_imports(alloc: Global, spec: &ImportSpec) -> Result<ImportSpe
         pref: spec.pref,
         limit: spec.limit,
         fixed: Seq::from_vec(fixed),
-    })
-}
-
-pub(crate) fn copy_exports(alloc: Global, spec: &ExportSpec) -> Result<ExportSpec, OutOfMemory>
-    ensures { IfOk result (λ copy. copy ≡ spec.now) }
-{
-    let sources = Vec::from_slice(alloc, spec.sources.as_slice())?;
-    Ok(ExportSpec {
-        family: spec.family,
-        own: spec.own,
-        to_ebgp: spec.to_ebgp,
-        interpret: spec.interpret,
-        every: spec.every,
-        sources: Seq::from_vec(sources),
     })
 }

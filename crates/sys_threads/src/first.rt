@@ -8,13 +8,13 @@ ghost use Rattle.sys_run.specs.declared.parts.ProtocolParts.{ProtocolParts as He
 ghost use Rattle.sys_threads.specs.Inside.{AreFirst, AreFirstChannels, IsFirstChannel, IsFirstProtocol, IsFirstSource, IsFirstTable, StandsFirst, TableIsFew};
 ghost use Rattle.sys_threads.specs.Running.{HasOwn};
 
-use crate::copies::{copy_exports, copy_imports};
+use crate::copies::copy_imports;
 use crate::named::channels_of;
 use attrs::Judge;
 use bits_ip::OutOfMemory;
 use export_core::Exporter;
 use import_core::Importer;
-use phase_answers::Lent;
+use phase_answers::{Lent, copy_exports};
 use phase_open::{Standing, StandingChannel, StandingProtocol, StandingTable};
 use rib::Rib;
 use std::alloc::Global;
