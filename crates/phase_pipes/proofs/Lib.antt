@@ -1,0 +1,6 @@
+pub mod Sourcing
+pub mod Beginning
+pub mod Operating
+pub mod Porting
+pub mod Opened
+pub mod Owing
