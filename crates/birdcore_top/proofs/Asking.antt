@@ -15,7 +15,7 @@ use Rattle.show_route.specs.declared.query.Query.{Query}
 use Rattle.sys_build.specs.Setups.{setup_of}
 use Rattle.sys_run.specs.Scripts.{AsksWhatIs}
 use Rattle.sys_threads.specs.Running.{NamesSome}
-use Rattle.birdcore_top.specs.Written.{AskWhatIs, NameSome}
+use Rattle.phases_out.specs.Given.{AskWhatIs, NameSome}
 
 module _ (named : Named) (actors : List (List ℕ)) (queries : ℕ) where
   asks : (line : Line) → NamesWhatIs named actors queries line → AsksWhatIs queries line

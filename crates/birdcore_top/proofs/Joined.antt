@@ -1,18 +1,22 @@
 -- What the script comes to, over a configuration that is accepted.
-use Rattle.std.proofs.Common.{◌≡◌, ℕ, ◌≤◌, List, Option, Some, None, sym, ◌∙◌, subst, arith, inl, inr}
-use Rattle.std.specs.Prelude.{◌⊎◌, Bool, Result, Ok, Err, IfErr, IfSome, IsErrAnd, IsTrue}
+use Rattle.std.proofs.Common.{◌≡◌, ℕ, ◌≤◌, List, Option, Some, None, refl, sym, ◌∙◌, subst, arith, inl, inr}
+use Rattle.std.proofs.lemmas.Bool.{true≢false}
+use Rattle.std.specs.Prelude.{◌⊎◌, Bool, false, Result, Ok, Err, IfErr, IfSome, IsErrAnd, IsTrue}
 use Rattle.core_setup.specs.Setup.{Setup}
 use Rattle.outside_io.specs.Faults.{NoneFell, Rose}
+use Rattle.phases_out.specs.Written.{HasBegun}
+use Rattle.phases_out.specs.declared.ending.Ending.{Ending}
+use Rattle.phases_out.specs.declared.ending.Ending.TheVariants as endings
 use Rattle.report.specs.declared.phase.PhaseReport.{PhaseReport}
 use Rattle.script_lines.specs.declared.script.Line.{Line}
 use Rattle.sys_build.specs.Setups.{IsPlayable}
 use Rattle.conf_system.specs.System.{System}
-use Rattle.birdcore_top.specs.Answer.{AreMissedInTurn, FindsLackedBy, HasCause, IsEnd, IsMissed, Stops}
+use Rattle.birdcore_top.specs.Answer.{AreMissedInTurn, FindsLackedBy, HasCause, IsMissed, Stops, end_status, writes}
 use Rattle.birdcore_top.specs.Command.{Command}
 use Rattle.birdcore_top.specs.Outcome.{Accepted, Configures, Held, Outcome, IsAccepted, ConfGives, IsPossible, PlayGives, Played, ScriptGives}
-use Rattle.birdcore_top.specs.Written.{AreReportsOf, HasBegun, IfBegun}
+use Rattle.birdcore_top.specs.Written.{AreReportsOf, IfBegun}
 use Rattle.birdcore_top.specs.declared.status.Status.{Status}
-use Rattle.birdcore_top.specs.declared.status.Status.TheVariants.{Usage, ConfigRefused, ScriptRefused, ReadFault, WriteFault, OutOfMemory, TooLong}
+use Rattle.birdcore_top.specs.declared.status.Status.TheVariants.{ReadFault, WriteFault, OutOfMemory}
 use Rattle.birdcore_top.specs.declared.status.Status.TheVariants as variants
 
 -- the status that an error is made of
@@ -67,19 +71,42 @@ begun_of command held setup actors phases P possible is = record {
   said = is.said;
 }
 
--- a play that came to its end answers the outcome
+-- phases that were played or run answer the outcome
 pub end_has_cause : (command : Option Command) (held : Held) (setup : Setup) (actors : List (List ℕ)) (phases : List (List Line)) → IsPossible command held (Played setup actors phases)
-    → (status : Status) → IsEnd status → HasCause (IsPossible command held) status
-end_has_cause command held setup actors phases possible variants.Ok is = λ answer. (Played setup actors phases, possible, tt)
-end_has_cause command held setup actors phases possible WriteFault is = λ answer. absurd (cc)
-end_has_cause command held setup actors phases possible OutOfMemory is = λ answer. absurd (cc)
-end_has_cause command held setup actors phases possible ReadFault is = absurd is
-end_has_cause command held setup actors phases possible Usage is = absurd is
-end_has_cause command held setup actors phases possible (ConfigRefused line column kind) is = absurd is
-end_has_cause command held setup actors phases possible (ScriptRefused line kind) is = absurd is
-end_has_cause command held setup actors phases possible (TooLong word) is = absurd is
+    → (ending : Ending) → HasCause (IsPossible command held) (end_status ending)
+end_has_cause command held setup actors phases possible endings.Written = λ answer. (Played setup actors phases, possible, tt)
+end_has_cause command held setup actors phases possible endings.SinkFailed = λ answer. absurd (cc)
+end_has_cause command held setup actors phases possible endings.OutOfMemory = λ answer. absurd (cc)
 
 -- and so does the end of a check that accepts
 pub accepted_has_cause : (command : Option Command) (held : Held) → IsPossible command held Accepted → (status : Status) → (status ≡ variants.Ok) ⊎ (status ≡ WriteFault) → HasCause (IsPossible command held) status
 accepted_has_cause command held possible status (inl is) = subst (λ (s : Status). HasCause (IsPossible command held) s) (sym is) (λ answer. (Accepted, possible, tt))
 accepted_has_cause command held possible status (inr is) = subst (λ (s : Status). HasCause (IsPossible command held) s) (sym is) (λ answer. absurd (cc))
+
+-- ---- how phases ended, by what is answered
+
+pub end_written : (ending : Ending) → end_status ending ≡ variants.Ok → ending ≡ endings.Written
+end_written endings.Written is = refl
+end_written endings.SinkFailed is = absurd (cc)
+end_written endings.OutOfMemory is = absurd (cc)
+
+pub end_failed : (ending : Ending) → end_status ending ≡ WriteFault → ending ≡ endings.SinkFailed
+end_failed endings.Written is = absurd (cc)
+end_failed endings.SinkFailed is = refl
+end_failed endings.OutOfMemory is = absurd (cc)
+
+pub end_wanting : (ending : Ending) → end_status ending ≡ OutOfMemory → ending ≡ endings.OutOfMemory
+end_wanting endings.Written is = absurd (cc)
+end_wanting endings.SinkFailed is = absurd (cc)
+end_wanting endings.OutOfMemory is = refl
+
+pub end_reads : (ending : Ending) → end_status ending ≡ ReadFault → ⊥
+end_reads endings.Written is = cc
+end_reads endings.SinkFailed is = cc
+end_reads endings.OutOfMemory is = cc
+
+-- each may have written something
+pub end_writes : (ending : Ending) → writes (end_status ending) ≡ false → ⊥
+end_writes endings.Written silent = true≢false silent
+end_writes endings.SinkFailed silent = true≢false silent
+end_writes endings.OutOfMemory silent = true≢false silent

@@ -1,9 +1,7 @@
 pub mod Cells
 pub mod Asking
-pub mod Writing
 pub mod Judged
 pub mod Joined
 pub mod Outcomes
 pub mod Decided
 pub mod Owed
-mod Running

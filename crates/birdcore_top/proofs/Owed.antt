@@ -9,20 +9,23 @@ use Rattle.std.proofs.lemmas.Option.{none-some}
 use Rattle.core_setup.specs.Setup.{Setup}
 use Rattle.outside_io.specs.Faults.{Rose}
 use Rattle.outside_io.specs.Whole.{WritesFront}
+use Rattle.phases_out.specs.Written.{HasBegun, HasPlayed, text_so_far}
+use Rattle.phases_out.specs.declared.ending.Ending.{Ending}
+use Rattle.phases_out.specs.declared.ending.Ending.TheVariants as endings
 use Rattle.report.specs.Report.{report_text, text_in}
 use Rattle.report.specs.declared.phase.Form.{Form}
 use Rattle.report.specs.declared.phase.PhaseReport.{PhaseReport}
 use Rattle.script_lines.specs.declared.script.Line.{Line}
-use Rattle.birdcore_top.specs.Answer.{Answers, FindsLacked, HasCause, IsEnd, MissesInTurn, Stops, is_early, writes}
+use Rattle.birdcore_top.specs.Answer.{Answers, FindsLacked, HasCause, MissesInTurn, Stops, end_status, is_early, writes}
 use Rattle.birdcore_top.specs.Answered.{Answered, ShelfSeen, SinkSeen}
 use Rattle.birdcore_top.specs.Command.{Command, Play, Run, Check, conf_of, form_of, script_of, usual_cells}
 use Rattle.birdcore_top.specs.Outcome.{Held, Outcome, Misused, OverLimit, Refused, BadLine, Played, Accepted, ConfGives, PlayGives, IsPossible}
-use Rattle.birdcore_top.specs.Written.{AreReportsOf, HasBegun, HasPlayed, IfBegun, IfPlayed, accepted_text, text_so_far}
+use Rattle.birdcore_top.specs.Written.{AreReportsOf, IfBegun, IfPlayed, accepted_text}
 use Rattle.birdcore_top.specs.declared.status.Status.{Status}
 use Rattle.birdcore_top.specs.declared.status.Status.TheVariants.{Usage, ConfigRefused, ScriptRefused, ReadFault, WriteFault, OutOfMemory, TooLong}
 use Rattle.birdcore_top.specs.declared.status.Status.TheVariants as variants
 use Rattle.birdcore_top.proofs.Decided.{HasOneOutcome, exact}
-use Rattle.birdcore_top.proofs.Joined.{accepted_has_cause, begun_of, end_has_cause}
+use Rattle.birdcore_top.proofs.Joined.{accepted_has_cause, begun_of, end_failed, end_has_cause, end_reads, end_wanting, end_writes, end_written}
 
 -- ---- words that are no command
 
@@ -131,18 +134,7 @@ stops_alone conf held status is = record { early = is.early; cause = λ answer. 
 not_early : (status other : Status) → is_early status ≡ true → is_early other ≡ false → status ≡ other → ⊥
 not_early status other early late is = true≢false (sym early ∙ ap is_early is ∙ late)
 
--- a play that came to its end writes
-end_writes : (status : Status) → IsEnd status → writes status ≡ false → ⊥
-end_writes variants.Ok is silent = true≢false silent
-end_writes WriteFault is silent = true≢false silent
-end_writes OutOfMemory is silent = true≢false silent
-end_writes Usage is silent = is
-end_writes ReadFault is silent = is
-end_writes (ConfigRefused line column kind) is silent = is
-end_writes (ScriptRefused line kind) is silent = is
-end_writes (TooLong name) is silent = is
-
--- nor is what a check writes silent
+-- what a check writes isn't silent
 accepted_writes : (status : Status) → (status ≡ variants.Ok) ⊎ (status ≡ WriteFault) → writes status ≡ false → ⊥
 accepted_writes status (inl is) silent = true≢false (sym (ap writes is) ∙ silent)
 accepted_writes status (inr is) silent = true≢false (sym (ap writes is) ∙ silent)
@@ -193,27 +185,29 @@ module _ (law : HasOneOutcome) (command : Command) (shelf shelf_after : ShelfSee
     }
 
     -- The files are played, to the report's end or until the sink fails or memory is refused.
-    pub ended : AreHeld command shelf.lacks → (status : Status) → IsEnd status
-        → (status ≡ variants.Ok → HasPlayed (AreReportsOf (Some command) setup actors) phases (λ reports. Appends sink.contents sink_after.contents (report_text (form_of (Some command)) reports)))
-        → (status ≡ WriteFault → HasBegun (AreReportsOf (Some command) setup actors) phases (λ more reports. WritesFront sink.contents sink_after.contents (text_so_far (form_of (Some command)) more reports)))
-        → (status ≡ OutOfMemory → HasBegun (AreReportsOf (Some command) setup actors) phases (λ more reports. Appends sink.contents sink_after.contents (flat_map (text_in (form_of (Some command))) reports)))
-        → (status ≡ WriteFault → Rose sink.faults sink_after.faults) → Answered (Some command) shelf shelf_after sink sink_after status
-    ended absent status end report front begun write =
-        let cause = end_has_cause (Some command) shelf.held setup actors phases possible status end in
-        let no_read : status ≡ ReadFault → ⊥ = λ is. subst (λ (s : Status). IsEnd s) is end in
-        let begun_so : status ≡ WriteFault → IfBegun (Some command) shelf.held Front = λ is. begun_of (Some command) shelf.held setup actors phases Front possible (front is) in
+    pub ended : AreHeld command shelf.lacks → (ending : Ending)
+        → (ending ≡ endings.Written → HasPlayed (AreReportsOf (Some command) setup actors) phases (λ reports. Appends sink.contents sink_after.contents (report_text (form_of (Some command)) reports)))
+        → (ending ≡ endings.SinkFailed → HasBegun (AreReportsOf (Some command) setup actors) phases (λ more reports. WritesFront sink.contents sink_after.contents (text_so_far (form_of (Some command)) more reports)))
+        → (ending ≡ endings.OutOfMemory → HasBegun (AreReportsOf (Some command) setup actors) phases (λ more reports. Appends sink.contents sink_after.contents (flat_map (text_in (form_of (Some command))) reports)))
+        → (ending ≡ endings.SinkFailed → Rose sink.faults sink_after.faults) → Answered (Some command) shelf shelf_after sink sink_after (end_status ending)
+    ended absent ending report front begun write =
+        let cause = end_has_cause (Some command) shelf.held setup actors phases possible ending in
+        let begun_so : end_status ending ≡ WriteFault → IfBegun (Some command) shelf.held Front = λ is. begun_of (Some command) shelf.held setup actors phases Front possible (front (end_failed ending is)) in
+        let wrote : end_status ending ≡ WriteFault → Rose sink.faults sink_after.faults = λ is. write (end_failed ending is) in
         record {
-          usage = (λ used. absurd (not_usage command shelf.held status cause used), λ none. absurd (no_command command none));
+          usage = (λ used. absurd (not_usage command shelf.held (end_status ending) cause used), λ none. absurd (no_command command none));
           cause = cause;
-          read = λ is. absurd (no_read is);
-          in_turn = λ is. absurd (no_read is);
-          write = write;
-          report = λ is. inl (played_of (λ reports. Appends sink.contents sink_after.contents (report_text (form_of (Some command)) reports)) (report is));
+          read = λ is. absurd (end_reads ending is);
+          in_turn = λ is. absurd (end_reads ending is);
+          write = wrote;
+          report = λ is. inl (played_of (λ reports. Appends sink.contents sink_after.contents (report_text (form_of (Some command)) reports)) (report (end_written ending is)));
           front = λ is. inl (begun_so is);
-          begun = λ is. inr (begun_of (Some command) shelf.held setup actors phases (λ more reports. Appends sink.contents sink_after.contents (flat_map (text_in (form_of (Some command))) reports)) possible (begun is));
-          nothing_else = λ silent. absurd (end_writes status end silent);
-          exact = exact law (Some command) shelf.held shelf.missed shelf_after.missed sink.faults sink_after.faults Front (WritesFront sink.contents sink_after.contents accepted_text) status cause (λ is. absurd (no_read is)) write (λ is. inl (begun_so is));
-          absent = held_all command shelf.lacks shelf.held status absent;
+          begun = λ is. inr (begun_of (Some command) shelf.held setup actors phases (λ more reports. Appends sink.contents sink_after.contents (flat_map (text_in (form_of (Some command))) reports)) possible (begun (end_wanting ending is)));
+          nothing_else = λ silent. absurd (end_writes ending silent);
+          exact =
+              exact law (Some command) shelf.held shelf.missed shelf_after.missed sink.faults sink_after.faults Front (WritesFront sink.contents sink_after.contents accepted_text) (end_status ending) cause
+              (λ is. absurd (end_reads ending is)) wrote (λ is. inl (begun_so is));
+          absent = held_all command shelf.lacks shelf.held (end_status ending) absent;
         }
 
   -- What was checked is accepted, which is written, or the sink fails.

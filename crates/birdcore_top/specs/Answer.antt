@@ -8,6 +8,8 @@ use Rattle.std.specs.String.{string_bytes}
 use Rattle.outside_io.specs.Faults.{Rose}
 use Rattle.outside_io.specs.declared.whole.ReadError.{ReadError}
 use Rattle.outside_io.specs.declared.whole.ReadError.TheVariants as errors
+use Rattle.phases_out.specs.declared.ending.Ending.{Ending}
+use Rattle.phases_out.specs.declared.ending.Ending.TheVariants as endings
 use Rattle.sys_build.specs.declared.scripts.ReadFault.{ReadFault as LineFault}
 use Rattle.sys_build.specs.declared.scripts.ReadFault.TheVariants as line_faults
 use Rattle.conf_system.specs.declared.read.SystemFault.{SystemFault}
@@ -137,13 +139,8 @@ IsReadStatus name errors.Failed status = status ≡ ReadFault
 IsReadStatus name errors.TooLong status = Answers (OverLimit name) status ⊎ (status ≡ OutOfMemory)
 IsReadStatus name errors.Memory status = status ≡ OutOfMemory
 
--- how writing ends
-abbrev pub IsEnd : Status → Type 0
-IsEnd Ok = ⊤
-IsEnd WriteFault = ⊤
-IsEnd OutOfMemory = ⊤
-IsEnd _ = ⊥
-
--- why it ends before all is written
-abbrev pub CutsOff : Status → Type 0
-CutsOff status = (status ≡ WriteFault) ⊎ (status ≡ OutOfMemory)
+-- what is answered where phases have been played or run, by how that ended
+abbrev pub end_status : Ending → Status
+end_status endings.Written = Ok
+end_status endings.SinkFailed = WriteFault
+end_status endings.OutOfMemory = OutOfMemory

@@ -9,11 +9,12 @@ use Rattle.std.specs.Io.KnownBytes.{Appends, Keeps}
 use Rattle.std.specs.List.{flat_map}
 use Rattle.outside_io.specs.Faults.{Rose}
 use Rattle.outside_io.specs.Whole.{WritesFront}
+use Rattle.phases_out.specs.Written.{text_so_far}
 use Rattle.report.specs.Report.{report_text, text_in}
 use Rattle.birdcore_top.specs.Answer.{Answers, FindsLacked, HasCause, MissesInTurn, NoneFailed, SinkTakes, writes}
 use Rattle.birdcore_top.specs.Command.{Command, form_of}
 use Rattle.birdcore_top.specs.Outcome.{Held, Outcome, IsPossible, IsRequired}
-use Rattle.birdcore_top.specs.Written.{IfAccepted, IfBegun, IfPlayed, accepted_text, text_so_far}
+use Rattle.birdcore_top.specs.Written.{IfAccepted, IfBegun, IfPlayed, accepted_text}
 use Rattle.birdcore_top.specs.declared.status.Status.{Status}
 use Rattle.birdcore_top.specs.declared.status.Status.TheVariants.{Ok, Usage, ReadFault, WriteFault, OutOfMemory}
 

@@ -3,4 +3,3 @@ pub mod Outcome
 pub mod Answer
 pub mod Written
 pub mod Answered
-pub mod Inside

@@ -1,13 +1,11 @@
 //! How the program ended.
 ghost use Rattle.std.specs.Prelude.{◌≡◌};
 ghost use Rattle.birdcore_top.specs.Answer.{number_of};
-ghost use Rattle.birdcore_top.specs.declared.status.Status.TheVariants.{OutOfMemory};
 
-use bits_ip::OutOfMemory;
 use conf_ast::ConfKind;
 use conf_system::SystemFault;
+use phases_out::Ending;
 use script_lines::ScriptKind;
-use std::alloc::AllocError;
 use sys_build::ReadFault;
 use thiserror::Error;
 
@@ -69,19 +67,17 @@ impl Status {
     }
 }
 
-impl From<AllocError> for Status {
-    ghost from_gives = { λ _ status. status ≡ OutOfMemory };
+impl From<Ending> for Status {
+    ghost use Rattle.birdcore_top.specs.Answer.{end_status};
 
-    fn from(_: AllocError) -> Self {
-        Status::OutOfMemory
-    }
-}
+    ghost from_gives = { λ ending status. status ≡ end_status ending };
 
-impl From<OutOfMemory> for Status {
-    ghost from_gives = { λ _ status. status ≡ OutOfMemory };
-
-    fn from(_: OutOfMemory) -> Self {
-        Status::OutOfMemory
+    fn from(ending: Ending) -> Self {
+        match ending {
+            Ending::Written => Status::Ok,
+            Ending::SinkFailed => Status::WriteFault,
+            Ending::OutOfMemory => Status::OutOfMemory,
+        }
     }
 }
 

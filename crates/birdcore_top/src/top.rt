@@ -5,11 +5,11 @@ ghost use Rattle.birdcore_top.specs.Command.{Check, Play, Run, command_of};
 
 use crate::files::{Files, read_conf, read_files};
 use crate::laws::files_have_one_outcome;
-use crate::run::write_run;
 use crate::status::Status;
 use crate::words::{Asked, asked_by};
-use crate::write::{write_accepted, write_play};
+use crate::write::write_accepted;
 use outside_io::{Gate, Shelf, Sink};
+use phases_out::{play_phases, run_phases};
 use report::Form;
 use std::alloc::Global;
 use std::random::RandomSource;
@@ -104,7 +104,9 @@ fn play_files<R: RandomSource, F: Shelf, K: Sink>(
 {
     files_have_one_outcome();
     match read_files(alloc, conf, script, true, shelf) {
-        Ok(Files { system, script }) => write_play(rt, alloc, &system, cells, form, script, out),
+        Ok(Files { system, script }) => {
+            Status::from(play_phases(rt, alloc, &system, cells, form, script, out))
+        }
         Err(status) => status,
     }
 }
@@ -130,9 +132,9 @@ fn run_files<R: RandomSource + Threads + Wait + Sync, F: Shelf, K: Sink, G: Gate
 {
     files_have_one_outcome();
     match read_files(alloc, conf, script, false, shelf) {
-        Ok(Files { system, script }) => write_run(
+        Ok(Files { system, script }) => Status::from(run_phases(
             rt, alloc, gate, &system, cells, form, script, out,
-        ),
+        )),
         Err(status) => status,
     }
 }

@@ -13,7 +13,8 @@ use Rattle.conf_system.specs.System.{System}
 use Rattle.conf_system.specs.Texts.{IsSystem}
 use Rattle.birdcore_top.specs.Command.{Command, Play, Run, Check}
 use Rattle.birdcore_top.specs.Outcome.{Held, Misused, IsPossible, Played, ScriptGives}
-use Rattle.birdcore_top.specs.Written.{ArePlayed, AreReportsOf, AreRun}
+use Rattle.birdcore_top.specs.Written.{AreReportsOf}
+use Rattle.phases_out.specs.Written.{ArePlayed, AreRun}
 
 not_misused : (setup : Setup) (actors : List (List ℕ)) (phases : List (List Line)) → Played setup actors phases ≡ Misused → ⊥
 not_misused setup actors phases same = cc

@@ -7,7 +7,8 @@ ghost use Rattle.script_lines.specs.declared.script.Line.{Line};
 ghost use Rattle.sys_run.specs.Scripts.{phase_of};
 ghost use Rattle.birdcore_top.specs.Command.{Command};
 ghost use Rattle.birdcore_top.specs.Outcome.{Held, Played, IsPossible};
-ghost use Rattle.birdcore_top.specs.Written.{ArePlayed, AreReportsOf};
+ghost use Rattle.birdcore_top.specs.Written.{AreReportsOf};
+ghost use Rattle.phases_out.specs.Written.{ArePlayed};
 
 use core_setup::laws::{plays_are_legal, reports_are_determined};
 use sys_build::laws::accepted_scripts_are_setups;

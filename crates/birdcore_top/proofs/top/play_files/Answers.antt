@@ -7,9 +7,10 @@ use Rattle.birdcore_top.proofs.top.play_files.Goals as goal
 
 pub returns-in-Ok : goal.returns-in-Ok
 returns-in-Ok g c =
-    ended (record { accepted = c.files_have_one_outcome.ensures.accepted; one = c.files_have_one_outcome.ensures.one })
-    (Play c.args.conf.now c.args.script.now c.args.cells c.args.form) _ _ _ _ _ _ _ (c.in-Ok.ensures.files c.args.cells) c.in-Ok.ensures.absent c.write_play.result c.write_play.ensures.end
-    c.write_play.ensures.report c.write_play.ensures.front c.write_play.ensures.begun c.write_play.ensures.write
+    rw c.from.ensures
+    (ended (record { accepted = c.files_have_one_outcome.ensures.accepted; one = c.files_have_one_outcome.ensures.one })
+    (Play c.args.conf.now c.args.script.now c.args.cells c.args.form) _ _ _ _ _ _ _ (c.in-Ok.ensures.files c.args.cells) c.in-Ok.ensures.absent c.play_phases.result
+    c.play_phases.ensures.report c.play_phases.ensures.front c.play_phases.ensures.begun c.play_phases.ensures.write)
 
 pub returns-in-Err : goal.returns-in-Err
 returns-in-Err g c =
@@ -18,5 +19,5 @@ returns-in-Err g c =
     (λ is. c.in-Err.ensures.read (ap (λ (s : Status). Err s) is)) (λ is. c.in-Err.ensures.in_turn (ap (λ (s : Status). Err s) is))
     (record { conf_lacked = c.in-Err.ensures.absent.0; script_lacked = c.in-Err.ensures.absent.1 }) (Keeps-refl _)
 
-pub write_play-requires-clause-fits : goal.write_play-requires-clause-fits
-write_play-requires-clause-fits g c = c.in-Ok.ensures.fits c.args.cells
+pub play_phases-requires-clause-fits : goal.play_phases-requires-clause-fits
+play_phases-requires-clause-fits g c = c.in-Ok.ensures.fits c.args.cells

@@ -7,9 +7,10 @@ use Rattle.birdcore_top.proofs.top.run_files.Goals as goal
 
 pub returns-in-Ok : goal.returns-in-Ok
 returns-in-Ok g c =
-    ended (record { accepted = c.files_have_one_outcome.ensures.accepted; one = c.files_have_one_outcome.ensures.one })
-    (Run c.args.conf.now c.args.script.now c.args.cells c.args.form) _ _ _ _ _ _ _ (c.in-Ok.ensures.files c.args.cells) c.in-Ok.ensures.absent c.write_run.result c.write_run.ensures.end
-    c.write_run.ensures.report c.write_run.ensures.front c.write_run.ensures.begun c.write_run.ensures.write
+    rw c.from.ensures
+    (ended (record { accepted = c.files_have_one_outcome.ensures.accepted; one = c.files_have_one_outcome.ensures.one })
+    (Run c.args.conf.now c.args.script.now c.args.cells c.args.form) _ _ _ _ _ _ _ (c.in-Ok.ensures.files c.args.cells) c.in-Ok.ensures.absent c.run_phases.result
+    c.run_phases.ensures.report c.run_phases.ensures.front c.run_phases.ensures.begun c.run_phases.ensures.write)
 
 pub returns-in-Err : goal.returns-in-Err
 returns-in-Err g c =
@@ -18,8 +19,8 @@ returns-in-Err g c =
     (λ is. c.in-Err.ensures.read (ap (λ (s : Status). Err s) is)) (λ is. c.in-Err.ensures.in_turn (ap (λ (s : Status). Err s) is))
     (record { conf_lacked = c.in-Err.ensures.absent.0; script_lacked = c.in-Err.ensures.absent.1 }) (Keeps-refl _)
 
-pub write_run-requires-clause-fits : goal.write_run-requires-clause-fits
-write_run-requires-clause-fits g c κs within = c.in-Ok.ensures.fits c.args.cells
+pub run_phases-requires-clause-fits : goal.run_phases-requires-clause-fits
+run_phases-requires-clause-fits g c κs within = c.in-Ok.ensures.fits c.args.cells
 
-pub write_run-requires-clause-named : goal.write_run-requires-clause-named
-write_run-requires-clause-named g c κs within = c.in-Ok.ensures.named c.args.cells
+pub run_phases-requires-clause-named : goal.run_phases-requires-clause-named
+run_phases-requires-clause-named g c κs within = c.in-Ok.ensures.named c.args.cells

@@ -1,0 +1,95 @@
+-- For private contracts alone: what is written while phases are played (`PlayedBy`) or run by
+-- threads (`RunBy`), phase by phase (`HasWritten`, `RunsOne`), and how that ends (`Ends`).
+use Rattle.std.specs.Prelude.{◌≡◌, ◌⊎◌, ℕ, List, [], ◌∷◌, ◌++◌, map, Option, ⊤}
+use Rattle.std.specs.Io.KnownBytes.{Appends}
+use Rattle.std.specs.List.{flat_map}
+use Rattle.attrs.specs.declared.judge.Verdict.{Verdict}
+use Rattle.attrs.specs.declared.route.Route.{Route}
+use Rattle.bits_ip.specs.Prefix.{Net}
+use Rattle.core_machine.specs.Lines as machine
+use Rattle.core_setup.specs.Setup.{Setup}
+use Rattle.outside_io.specs.Faults.{Rose}
+use Rattle.outside_io.specs.Whole.{WritesFront}
+use Rattle.report.specs.Report.{report_text, text_in}
+use Rattle.report.specs.declared.phase.Form.{Form}
+use Rattle.report.specs.declared.phase.PhaseReport.{PhaseReport}
+use Rattle.script_lines.specs.declared.script.Line.{Line}
+use Rattle.sys_run.specs.Playing as core
+use Rattle.sys_run.specs.Scripts.{phase_of}
+use Rattle.sys_run.specs.declared.player.Core.{Core}
+use Rattle.sys_threads.specs.Running as threads
+use Rattle.sys_threads.specs.declared.fault.RunFault.{RunFault}
+use Rattle.sys_threads.specs.declared.fault.RunFault.TheVariants as faults
+use Rattle.sys_threads.specs.declared.runner.Runner.{Runner}
+use Rattle.phases_out.specs.Written.{HasBegun, HasPlayed, text_so_far}
+use Rattle.phases_out.specs.declared.ending.Ending.{Ending}
+use Rattle.phases_out.specs.declared.ending.Ending.TheVariants.{OutOfMemory, SinkFailed, Written}
+use Rattle.phases_out.specs.declared.run.Stop.{Stop}
+use Rattle.phases_out.specs.declared.run.Stop.TheVariants.{Late, With}
+
+module _ {J : Type 0} (verdict : J → Net → Route → Verdict) (setup : Setup) (actors : List (List ℕ))
+  where
+    -- what a core has played
+    abbrev pub PlayedBy : Core J → List (List machine.Line) → List PhaseReport → Type 0
+    PlayedBy now scripts reports = core.HasPlayed verdict setup actors scripts reports now
+
+    -- what a runner has run
+    abbrev pub RunBy : Runner J → List (List machine.Line) → List PhaseReport → Type 0
+    RunBy now scripts reports = threads.HasRun verdict setup actors scripts reports now
+
+-- Phases have been played or run, as is said of their scripts and reports, and the texts of the
+-- reports are written.
+pub record HasWritten
+    (Has : List (List machine.Line) → List PhaseReport → Type 0) (setup : Setup)
+    (phases : List (List Line)) (form : Form) (before after : Option (List ℕ)) : Type 0 where
+  pub reports : List PhaseReport
+  pub played : Has (map (phase_of setup.queries) phases) reports
+  pub written : Appends before after (flat_map (text_in form) reports)
+
+-- What is owed of phases with this ending; the output has failed so often before and after.
+pub record Ends
+    (Are : List (List Line) → List PhaseReport → Type 0) (phases : List (List Line)) (form : Form)
+    (before after : Option (List ℕ)) (faults faults_after : ℕ) (ending : Ending) : Type 0 where
+  pub report : ending ≡ Written
+      → HasPlayed Are phases (λ reports. Appends before after (report_text form reports))
+  pub front : ending ≡ SinkFailed
+      → HasBegun Are phases
+      (λ more reports. WritesFront before after (text_so_far form more reports))
+  pub begun : ending ≡ OutOfMemory
+      → HasBegun Are phases
+      (λ more reports. Appends before after (flat_map (text_in form) reports))
+  pub write : ending ≡ SinkFailed → Rose faults faults_after
+
+-- why it ends before all is written
+abbrev pub CutsOff : Ending → Type 0
+CutsOff ending = (ending ≡ SinkFailed) ⊎ (ending ≡ OutOfMemory)
+
+-- ---- runs by threads
+
+-- A phase more is run, and this is said of its report.
+pub record RunsOne
+    {J : Type 0} (verdict : J → Net → Route → Verdict) (actors : List (List ℕ)) (lines : List Line)
+    (runner next : Runner J) (P : PhaseReport → Type 0) : Type 0 where
+  pub report : PhaseReport
+  pub run :
+      (setup : Setup) (scripts : List (List machine.Line)) (reports : List PhaseReport)
+      → RunBy verdict setup actors runner scripts reports
+      → RunBy verdict setup actors next (scripts ++ phase_of setup.queries lines ∷ [])
+      (reports ++ report ∷ [])
+  pub said : P report
+
+-- why a run stops where a phase isn't run to its end: so many positions don't fit in memory
+abbrev pub stop_of : RunFault → Stop
+stop_of faults.Late = Late
+stop_of (faults.Ended head) = With OutOfMemory
+stop_of faults.Memory = With OutOfMemory
+
+-- What is owed where a run stops: this where threads can't run it, or that of its ending.
+abbrev pub StopsSo : Type 0 → (Ending → Type 0) → Stop → Type 0
+StopsSo late ends Late = late
+StopsSo late ends (With ending) = ends ending
+
+-- it stops with an ending that cuts off what is written
+abbrev pub StopsOff : Stop → Type 0
+StopsOff Late = ⊤
+StopsOff (With ending) = CutsOff ending
