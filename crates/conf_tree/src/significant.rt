@@ -152,13 +152,13 @@ fn keep(found: &mut Vec<Word>, region: Region, word: &Word) -> Result<(), LexFau
     Ok(())
 }
 
-// The marks, and this one more where the last is far from it: one for each 65,536 bytes of the text,
+// The marks, and this one more where the last is far from it: one for each 4,096 bytes of the text,
 // so that to walk to a word again from the mark before it is next to nothing.
 fn note(marks: &mut Vec<Mark>, mark: Mark)
     ensures { (text : List ℕ) → IsMark text mark → AreMarks text marks.old.items
         → AreMarks text marks.new.items }
 {
-    if marks.len() <= mark.spot.at / 65536 {
+    if marks.len() <= mark.spot.at / 4096 {
         // Where there is no memory for it, the way from the mark before it is longer.
         let _ = marks.push(mark);
     }

@@ -24,7 +24,8 @@ fn is_bracket(word: &Word) -> bool
     opens_set(word) || is_symbol(word, Symbol::CloseBracket)
 }
 
-/// Whether the last bracket of these words opens a set.
+/// Whether the last bracket of these words opens a set. No set holds a semicolon, so behind one
+/// nothing is looked for.
 pub fn is_in_set(words: &[Word]) -> bool
     ensures { IsTrue result → IsInSet words.now }
 {
@@ -32,6 +33,9 @@ pub fn is_in_set(words: &[Word]) -> bool
     while let [front @ .., word] = left {
         if is_bracket(word) {
             return opens_set(word);
+        }
+        if is_symbol(word, Symbol::Semicolon) {
+            return false;
         }
         left = front;
     }
