@@ -1,3 +1,6 @@
+mod AnsweredOnce
+mod AskedOnce
 mod Numbers
 mod Policies
+mod SaidOnce
 mod Texts

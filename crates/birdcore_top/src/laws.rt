@@ -7,8 +7,7 @@ ghost use Rattle.conf_system.specs.Texts.{IsRefusedAt, IsSystem};
 ghost use Rattle.birdcore_top.specs.Command.{Command};
 ghost use Rattle.birdcore_top.specs.Outcome.{Held, Outcome, ConfGives, IsAccepted, IsPossible, IsRequired};
 
-use conf_system::laws::texts_say_one_thing;
-use sys_build::laws::a_text_has_one_answer;
+use accepted_laws::said::{a_text_has_one_answer, texts_say_one_thing};
 
 /// Files that are told come to one outcome at most: what may be due is what is required. Where the
 /// configuration decides it alone, the configuration isn't accepted.

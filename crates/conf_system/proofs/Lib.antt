@@ -1,11 +1,11 @@
 pub mod Accepted
 pub mod Agreeing
 pub mod Agrees
-pub mod AskedOnce
 pub mod ByNumber
 pub mod Coding
 pub mod Conditions
 pub mod Counted
+pub mod Endings
 pub mod Every
 pub mod Few
 pub mod FewNames
@@ -14,7 +14,6 @@ pub mod Forest
 pub mod Last
 pub mod Named
 pub mod Ordered
-pub mod SaidOnce
 pub mod TablesThere
 pub mod Told
 pub mod Unrefused

@@ -1,4 +1,3 @@
-pub mod AnsweredOnce
 pub mod Few
 pub mod Fitting
 pub mod Handed

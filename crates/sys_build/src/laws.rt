@@ -1,5 +1,5 @@
 //! What holds of all that an accepted configuration and a script give to play, and of what is named.
-ghost use Rattle.std.specs.Prelude.{◌≡◌, ◌<◌, ◌≤◌, ◌-◌, ◌^◌, ℕ, Bool, List, [], ◌∷◌, Some, length, map};
+ghost use Rattle.std.specs.Prelude.{◌≡◌, ◌<◌, ◌≤◌, ◌^◌, ℕ, Bool, List, [], ◌∷◌, Some, length, map};
 ghost use Rattle.std.specs.List.{All};
 ghost use Rattle.core_setup.specs.Bridges.{KeepsItsOwn, pipe_at};
 ghost use Rattle.core_setup.specs.Channels.{Channel, channels};
@@ -12,7 +12,7 @@ ghost use Rattle.script_lines.specs.declared.named.NamedProtocol.{NamedProtocol}
 ghost use Rattle.script_lines.specs.declared.script.Line.{Line};
 ghost use Rattle.show_route.specs.declared.query.Query.{Query};
 ghost use Rattle.sys_build.specs.Names.{IsKindOf, named_of};
-ghost use Rattle.sys_build.specs.Scripts.{Accepted, Answer, Answers};
+ghost use Rattle.sys_build.specs.Scripts.{Accepted, Answers};
 ghost use Rattle.sys_build.specs.Setups.{setup_of};
 ghost use Rattle.sys_run.specs.Scripts.{FitsLine};
 ghost use Rattle.conf_system.specs.Policies.{Filter};
@@ -23,32 +23,11 @@ use conf_names::laws::{
     joined_tables_are_those_that_pipes_lead_between, pipes_of_a_forest_are_bridges,
 };
 use conf_system::laws::{
-    channels_have_their_tables, conditions_ask_for_one_thing, configurations_have_few_protocols,
-    configurations_have_few_tables_and_filters, each_text_is_a_condition_or_is_refused,
-    pipes_form_a_forest,
+    channels_have_their_tables, configurations_have_few_protocols,
+    configurations_have_few_tables_and_filters, pipes_form_a_forest,
 };
 use core_setup::laws::bridges_keep_their_own;
 use script_lines::laws as lines;
-
-/// A text has one answer at most over a system: it is a script, with its queries and what its
-/// conditions ask for, or it is refused, in one line for one reason.
-pub fn a_text_has_one_answer()
-    ensures { (system : System) (schedule : Bool) (text : List ℕ) (a b : Answer)
-        → Answers system schedule text a → Answers system schedule text b → a ≡ b }
-{
-    lines::a_text_has_one_answer();
-    conditions_ask_for_one_thing();
-}
-
-/// Each text has an answer.
-pub fn each_text_has_an_answer()
-    ensures { (system : System) (schedule : Bool) (text : List ℕ) → length text < 2 ^ 32 - 1
-        → (answer : Answer) × Answers system schedule text answer }
-{
-    lines::each_text_has_an_answer();
-    lines::conditions_are_short();
-    each_text_is_a_condition_or_is_refused();
-}
 
 /// An accepted script over an accepted configuration can be played: routes tell the numbers of their
 /// protocols, each table that a protocol names is there, each channel is of the family of its table,

@@ -1,4 +1,4 @@
-use Rattle.conf_system.proofs.AskedOnce.{all_told}
+use Rattle.conf_system.proofs.Endings.{all_told}
 use Rattle.conf_system.proofs.condition.whole.Goals as goal
 
 pub returns-else-end-tokens : goal.returns-else-end-tokens

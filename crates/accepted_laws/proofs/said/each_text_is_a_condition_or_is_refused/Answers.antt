@@ -1,5 +1,5 @@
-use Rattle.conf_system.proofs.AskedOnce.{condition_told}
-use Rattle.conf_system.proofs.laws.each_text_is_a_condition_or_is_refused.Goals as goal
+use Rattle.accepted_laws.proofs.AskedOnce.{condition_told}
+use Rattle.accepted_laws.proofs.said.each_text_is_a_condition_or_is_refused.Goals as goal
 
 pub returns : goal.returns
 returns c =

@@ -1,5 +1,5 @@
-use Rattle.conf_system.proofs.SaidOnce.{accepted_or_refused, refusals_agree, systems_agree}
-use Rattle.conf_system.proofs.laws.texts_say_one_thing.Goals as goal
+use Rattle.accepted_laws.proofs.SaidOnce.{accepted_or_refused, refusals_agree, systems_agree}
+use Rattle.accepted_laws.proofs.said.texts_say_one_thing.Goals as goal
 
 pub returns-clause-accepted : goal.returns-clause-accepted
 returns-clause-accepted c = systems_agree c.a_text_is_one_syntax.ensures

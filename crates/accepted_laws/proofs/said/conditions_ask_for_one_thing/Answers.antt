@@ -1,5 +1,5 @@
-use Rattle.conf_system.proofs.AskedOnce.{condition_or_refused, conditions_agree}
-use Rattle.conf_system.proofs.laws.conditions_ask_for_one_thing.Goals as goal
+use Rattle.accepted_laws.proofs.AskedOnce.{condition_or_refused, conditions_agree}
+use Rattle.accepted_laws.proofs.said.conditions_ask_for_one_thing.Goals as goal
 
 pub returns-clause-condition : goal.returns-clause-condition
 returns-clause-condition c =

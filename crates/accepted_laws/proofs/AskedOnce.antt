@@ -15,12 +15,12 @@ use Rattle.filt_syntax.specs.Tokens.{IsRefusedIn, ParsesAtToken}
 use Rattle.expr_syntax.specs.View.{derivations}
 use Rattle.filt_syntax.specs.declared.parse.SyntaxFault.{SyntaxFault}
 use Rattle.filt_syntax.specs.declared.parse.SyntaxFault.TheVariants as faults
-use Rattle.filt_syntax.proofs.RefusedTokens.{below_words}
 use Rattle.conf_system.specs.Asked.{Asked, Asks, Refuses}
 use Rattle.conf_system.specs.Conditions.{IsCondition, IsExpressionText, IsNoExpression, RefusesCondition}
 use Rattle.conf_system.specs.Policies.{Filter}
 use Rattle.conf_system.specs.System.{System}
 use Rattle.conf_system.proofs.Counted.{tokens_few, words_few}
+use Rattle.conf_system.proofs.Endings.{ends_within}
 
 abbrev asked_filter : Filter → Asked → Filter
 asked_filter other Refuses = other
@@ -74,24 +74,6 @@ module _ (one_list : (text : List ℕ) (ts us : List Token) → Lexes 0 text ts 
 by_asked : (system : System) (text : List ℕ) (e : Expression) → IsExpressionText text e → (a : Asked) → system.asked text e ≡ a → ((f : Filter) × IsCondition system text f) ⊎ RefusesCondition system text
 by_asked system text e is Refuses asked = inr (inr (e, is, asked))
 by_asked system text e is (Asks f) asked = inl (f, (e, is, asked))
-
--- the end of what is parsed is no further than that of the tokens
-ends_within : (text : List ℕ) (tokens : List Token) (t : ParseTree) (end : ℕ) → ParsesAtToken expr text tokens 0 t end → end ≤ length tokens
-ends_within text tokens t end parsed =
-    let low = below_words text (length tokens) 0 0 tokens (omega arith) parsed.place in
-    omega (arith, parsed.ends, low)
-
--- an expression that ends with the last token
-pub all_told : (text : List ℕ) (tokens : List Token) (tree : Expr) (end : ℕ) → Lexes 0 text tokens → ParsesAtToken expr text tokens 0 (derivations tree).expr end → length tokens ≤ end → IsExpressionText text (expression_of tree)
-all_told text tokens tree end lexed parsed past =
-    let ends : end ≡ length tokens = omega (arith, past, ends_within text tokens (derivations tree).expr end parsed) in
-    record {
-      tokens = tokens;
-      lexed = lexed;
-      tree = tree;
-      parsed = subst (λ (n : ℕ). ParsesAtToken expr text tokens 0 (derivations tree).expr n) ends parsed;
-      is = refl;
-    }
 
 module _ (slices : (text : List ℕ) (front back : List Token) (t : Token) → Lexes 0 text (front ++ t ∷ back) → IsSpan text t)
     (rises : (text : List ℕ) (front back : List Token) (t u : Token) → Lexes 0 text (front ++ t ∷ u ∷ back) → IsBetween text (t.at + t.len) u.at)

@@ -1,5 +1,5 @@
-use Rattle.sys_build.proofs.AnsweredOnce.{answers_agree}
-use Rattle.sys_build.proofs.laws.a_text_has_one_answer.Goals as goal
+use Rattle.accepted_laws.proofs.AnsweredOnce.{answers_agree}
+use Rattle.accepted_laws.proofs.said.a_text_has_one_answer.Goals as goal
 
 pub returns : goal.returns
 returns c =
