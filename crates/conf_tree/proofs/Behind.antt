@@ -13,7 +13,7 @@ use Rattle.expr_syntax.specs.Syntax.{rule}
 use Rattle.expr_syntax.proofs.Tested.{model, after, checked, good_at, solid_at}
 use Rattle.filt_syntax.specs.RefusedToken.{CanFollow}
 use Rattle.filt_syntax.proofs.Follows.{begun_before}
-use Rattle.word_pairs.proofs.Ends.{implied, not_is, stops_low, ends, InSecond, in_second, ends_so}
+use Rattle.conf_syntax.proofs.Ends.{implied, not_is, stops_low, ends, InSecond, in_second, ends_so}
 use Rattle.conf_syntax.specs.Syntax.{statement, config}
 use Rattle.conf_tree.specs.Readers.{statement_at, statement_row_at, config_at, to_the_end, whole_at}
 use Rattle.conf_tree.specs.Sentence.{IsSentence}

@@ -8,7 +8,7 @@ use Rattle.conf_lex.specs.declared.word.Word.TheVariants as words
 use Rattle.conf_lex.specs.Symbols.{is_placed}
 use Rattle.conf_lex.specs.Kind.{kind_of, symbol}
 use Rattle.conf_lex.proofs.Symbols.{is_symbol_word, symbol_same}
-use Rattle.word_pairs.proofs.Ends.{last_same}
+use Rattle.conf_syntax.proofs.Ends.{last_same}
 use Rattle.conf_tree.specs.Sentence.{EndsIn}
 
 pub last_one : (a b : List Word) (v w : Word) → a ++ v ∷ [] ≡ b ++ w ∷ [] → v ≡ w

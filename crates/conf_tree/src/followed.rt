@@ -5,9 +5,9 @@ ghost use Rattle.conf_syntax.specs.Syntax.{config};
 use crate::config::config;
 use bits_ip::OutOfMemory;
 use conf_lex::{Refusal, Word};
+use conf_syntax::{is_apart, is_joined};
 use filt_syntax::parts::{LEVELS, Sentences};
 use std::alloc::Global;
-use word_pairs::{is_apart, is_joined};
 
 pub struct Configurations;
 

@@ -1,8 +1,0 @@
-use Rattle.std.proofs.Common.{sym, ◌∙◌}
-use Rattle.word_pairs.proofs.Prefixes.{joined_is}
-use Rattle.word_pairs.proofs.joined.is_joined.Goals as goal
-
-pub returns-then-is_prefix : goal.returns-then-is_prefix
-returns-then-is_prefix c = λ yes front w cut begun.
-    joined_is c.args.words.now c.in-Some.before.now front c.in-Some.word.now w c.in-Some.ensures.cases.0
-    (λ first. c.end_before_prefix.ensures yes first c.in-Some.word.now (sym c.is_prefix.ensures ∙ c.if-is_prefix.true)) cut begun
