@@ -2,7 +2,7 @@
 use Rattle.std.proofs.Common.{◌≡◌, ℕ, ◌<◌, ◌≤◌, ◌^◌, Bool, true, false, ◌==◌, ltb, List, [], ◌∷◌, ◌++◌, length, map, take, drop, Option, Some, None, refl, sym, ap, subst, ◌∙◌, append_assoc, arith}
 use Rattle.std.specs.Prelude.{IfSome, slice_index}
 use Rattle.std.proofs.lemmas.Bool.{eqb-true, ltb-false, le-ltb}
-use Rattle.std.proofs.lemmas.List.{take-append-drop}
+use Rattle.std.proofs.lemmas.List.{append_cancel_right, append-nil, take-append-drop}
 use Rattle.std.specs.Option.{is_some}
 use Rattle.attrs.specs.declared.route.Route.{Route}
 use Rattle.rec_words.specs.declared.parts.Head.{Head}
@@ -270,3 +270,19 @@ optional_route_takes true ws r rest fits read =
     (λ (x : Option Route × List ℕ). Takes ws (optional_route_words x.0) x.1 × (is_some x.0 ≡ true) × IfSome x.0 IsRoute)
     (some_is (Some b.0.0, b.0.1) (r, rest) b.2)
     (t.0, refl, t.1)
+
+-- the same words twice say the same of both routes
+same_routes : (ws : List ℕ) (a b : Option Route) → IsWords (ws ++ ws) → optional_route_at true (ws ++ ws) ≡ Some (a, ws) → optional_route_at true ws ≡ Some (b, []) → a ≡ b
+same_routes ws a b fits first second =
+    let one = optional_route_takes true (ws ++ ws) a ws fits first in
+    let of_one : optional_route_words a ≡ ws = sym (append_cancel_right ws (optional_route_words a) ws one.0.parts) in
+    let again : optional_route_at (is_some a) (optional_route_words a ++ []) ≡ Some (a, []) = optional_route_again a [] one.2 in
+    let read : optional_route_at true ws ≡ Some (a, []) =
+    subst (λ (there : Bool). optional_route_at there ws ≡ Some (a, [])) one.1 (subst (λ (xs : List ℕ). optional_route_at (is_some a) xs ≡ Some (a, [])) (append-nil (optional_route_words a) ∙ of_one) again) in
+    ap (λ (x : Option Route × List ℕ). x.0) (some_is (a, []) (b, []) (sym read ∙ second))
+
+pub told_once : (has_new has_best : Bool) (ws behind end : List ℕ) (new best : Option Route) → IsWords ws → optional_route_at has_new ws ≡ Some (new, behind) → optional_route_at has_best behind ≡ Some (best, end) → end ≡ [] → has_new ≡ true → has_best ≡ true → ws ≡ behind ++ behind → new ≡ best
+told_once has_new has_best ws behind end new best fits first second none is_new is_best twice =
+    same_routes behind new best (subst IsWords twice fits)
+    (subst (λ (there : Bool). optional_route_at there (behind ++ behind) ≡ Some (new, behind)) is_new (subst (λ (xs : List ℕ). optional_route_at has_new xs ≡ Some (new, behind)) twice first))
+    (subst (λ (there : Bool). optional_route_at there behind ≡ Some (best, [])) is_best (subst (λ (xs : List ℕ). optional_route_at has_best behind ≡ Some (best, xs)) none second))

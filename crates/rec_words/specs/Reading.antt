@@ -1,7 +1,7 @@
 -- Reading an entry from words: what is read at the front, with the words behind it, or nothing
 -- where the front isn't spelled so. `entry_in` and the like are what the parts that were read come
 -- to, before memory is taken for them. Not modelled: memory. From: this project's own format.
-use Rattle.std.specs.Prelude.{◌≡◌, ℕ, ◌+◌, ◌-◌, ◌*◌, ◌/◌, ◌%◌, ◌^◌, Bool, true, false, not, ◌&&◌, ◌==◌, nat_lt, nat_le, if◌then◌else◌, List, [], ◌∷◌, ◌++◌, length, map, take, drop, slice_index, Option, Some, None, Result, Ok, Err, option_map}
+use Rattle.std.specs.Prelude.{◌≡◌, ℕ, ◌+◌, ◌-◌, ◌*◌, ◌/◌, ◌%◌, ◌^◌, Bool, true, false, not, ◌&&◌, ◌==◌, nat_lt, nat_le, if◌then◌else◌, List, [], ◌∷◌, ◌++◌, length, map, take, drop, slice_index, Option, Some, None, Result, Ok, Err, option_map, IsTrue}
 use Rattle.std.specs.List.{flat_map, list_any}
 use Rattle.std.specs.Option.{is_some}
 use Rattle.bits_ip.specs.Address.{number_of, width_of}
@@ -299,3 +299,7 @@ entry_in parts = record {
   new = option_map route_in parts.new;
   best = option_map route_in parts.best;
 }
+
+-- where it is told that the words say the same of both routes, they do
+abbrev pub AreAsTold : EntryParts → Type 0
+AreAsTold parts = IsTrue parts.is_new_best → option_map route_in parts.new ≡ option_map route_in parts.best

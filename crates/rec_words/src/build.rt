@@ -2,7 +2,7 @@
 ghost use Rattle.std.specs.Prelude.{◌≡◌, ◌≤◌, length, map, IfOk, IfSome, option_map};
 ghost use Rattle.attrs.specs.Clist.{IsClist};
 ghost use Rattle.rec_words.specs.Entries.{IsEntry, IsRoute};
-ghost use Rattle.rec_words.specs.Reading.{entry_in, numbers_in, pair_of, route_in};
+ghost use Rattle.rec_words.specs.Reading.{AreAsTold, entry_in, numbers_in, pair_of, route_in};
 
 use crate::parts::{EntryParts, Numbers, RouteParts};
 use crate::word::{high_half, low_half, pair_of};
@@ -11,17 +11,35 @@ use bits_ip::OutOfMemory;
 use std::alloc::Global;
 
 pub(crate) fn build_entry(alloc: Global, parts: &EntryParts) -> Result<JEntry, OutOfMemory>
-    requires { IsEntry (entry_in parts.now) }
+    requires entry { IsEntry (entry_in parts.now) }
+    requires told { AreAsTold parts.now }
     ensures { IfOk result (λ entry. entry ≡ entry_in parts.now) }
 {
     let new = build_optional_route(alloc, parts.new.as_ref())?;
-    let best = build_optional_route(alloc, parts.best.as_ref())?;
+    let best = build_best(alloc, parts, new.as_ref())?;
     Ok(JEntry {
         net: parts.front.net,
         num: parts.front.num,
         new,
         best,
     })
+}
+
+/// The best route, which owns the attributes of the new one where that is the best.
+fn build_best(
+    alloc: Global,
+    parts: &EntryParts,
+    new: Option<&Route>,
+) -> Result<Option<Route>, OutOfMemory>
+    requires best { IfSome parts.now.best (λ best. IsRoute (route_in best)) }
+    requires told { AreAsTold parts.now }
+    requires new { option_map (λ new. new.now) new ≡ option_map route_in parts.now.new }
+    ensures { IfOk result (λ route. route ≡ option_map route_in parts.now.best) }
+{
+    match new {
+        Some(new) if parts.is_new_best => Ok(Some(new.copy()?)),
+        _ => build_optional_route(alloc, parts.best.as_ref()),
+    }
 }
 
 fn build_optional_route(

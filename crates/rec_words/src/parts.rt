@@ -52,4 +52,6 @@ pub(crate) struct EntryParts<'a> {
     pub front: Front,
     pub new: Option<RouteParts<'a>>,
     pub best: Option<RouteParts<'a>>,
+    /// The words say the same of both routes.
+    pub is_new_best: bool,
 }

@@ -1,6 +1,7 @@
-ghost use Rattle.std.specs.Prelude.{◌≡◌, ◌<◌, ◌≤◌, ◌↔◌, ◌+◌, ◌*◌, ◌/◌, ◌^◌, length, Err, IfOk, option_map};
+ghost use Rattle.std.specs.Prelude.{◌≡◌, ◌==◌, ◌<◌, ◌≤◌, ◌↔◌, ◌+◌, ◌*◌, ◌/◌, ◌^◌, ◌∷◌, ◌++◌, ◌&&◌, true, not, length, Err, IfOk, IsTrue, option_map};
+ghost use Rattle.std.specs.List.{flat_map, list_any};
 ghost use Rattle.rec_words.specs.Entries.{Spells, IsEntryWords};
-ghost use Rattle.rec_words.specs.Reading.{addr_at, all_distinct, coms_at, entry_at, entry_in, family_addr_at, front_in, Gives, head_at, head_in, last_at, net_at, numbers_at, numbers_in, optional_at, optional_route_at, path_at, route_at, route_in, v4_at, v6_at, ways_at};
+ghost use Rattle.rec_words.specs.Reading.{addr_at, all_distinct, AreAsTold, coms_at, entry_at, entry_in, family_addr_at, front_in, Gives, head_at, head_in, last_at, listed, net_at, numbers_at, numbers_in, optional_at, optional_route_at, path_at, route_at, route_in, split_word, v4_at, v6_at, ways_at};
 ghost use Rattle.rec_words.specs.declared.fault.WordsFault.TheVariants.{BadWords};
 
 use crate::build::build_entry;
@@ -12,7 +13,6 @@ use crate::word::{
 };
 use attrs::{JEntry, Src};
 use bits_ip::{Addr, Prefix};
-use jour_rule::buf::Buf;
 use std::alloc::Global;
 
 /// The entry whose words these are. `BadWords` comes exactly where they are no entry's; `Memory`
@@ -30,19 +30,55 @@ pub fn get_words(alloc: Global, words: &[u64]) -> Result<JEntry, WordsFault>
 /// What the words come to, without memory.
 #[tactic(auto, unfolding(crate::specs::Reading::entry_at))]
 fn read_entry(words: &[u64]) -> Result<EntryParts<'_>, Misspelt>
-    ensures { Gives entry_in result (entry_at words.now) }
+    ensures read { Gives entry_in result (entry_at words.now) }
+    ensures told { IfOk result AreAsTold }
 {
     if words.len() < 5 {
         return Err(Misspelt);
     }
     let (front, rest) = words.split_at(5);
     let front = read_front(words.len(), front)?;
-    let (new, rest) = read_optional_route(front.has_new, rest)?;
-    let (best, rest) = read_optional_route(front.has_best, rest)?;
-    if !rest.is_empty() {
+    let (new, behind) = read_optional_route(front.has_new, rest)?;
+    let (best, end) = read_optional_route(front.has_best, behind)?;
+    if !end.is_empty() {
         return Err(Misspelt);
     }
-    Ok(EntryParts { front, new, best })
+    let is_new_best = is_one_route(&front, rest, behind);
+    Ok(EntryParts {
+        front,
+        new,
+        best,
+        is_new_best,
+    })
+}
+
+/// Whether these words are the others twice.
+fn is_twice(half: &[u64], words: &[u64]) -> bool
+    ensures { IsTrue result → words.now ≡ half.now ++ half.now }
+{
+    if words.len() / 2 != half.len() {
+        return false;
+    }
+    let (front, back) = words.split_at(half.len());
+    if front != half {
+        return false;
+    }
+    back == half
+}
+
+/// Whether there are both routes, in the same words.
+fn is_one_route(front: &Front, words: &[u64], behind: &[u64]) -> bool
+    ensures new { IsTrue result → front.now.has_new ≡ true }
+    ensures best { IsTrue result → front.now.has_best ≡ true }
+    ensures twice { IsTrue result → words.now ≡ behind.now ++ behind.now }
+{
+    if !front.has_new {
+        return false;
+    }
+    if !front.has_best {
+        return false;
+    }
+    is_twice(behind, words)
 }
 
 /// The front of an entry of so many words.
@@ -262,8 +298,7 @@ fn read_coms(count: u8, words: &[u64]) -> Result<(Numbers<'_>, &[u64]), Misspelt
 /// As many numbers.
 #[tactic(auto, unfolding(crate::specs::Reading::numbers_at))]
 fn read_numbers(count: u8, words: &[u64]) -> Result<(Numbers<'_>, &[u64]), Misspelt>
-    ensures read { Gives (λ x. (numbers_in x.0, x.1.now)) result (numbers_at count words.now) }
-    ensures few { IfOk result (λ x. length x.0.pairs.now ≤ count / 2) }
+    ensures { Gives (λ x. (numbers_in x.0, x.1.now)) result (numbers_at count words.now) }
 {
     let pairs = usize::from(count / 2);
     if words.len() < pairs {
@@ -289,28 +324,38 @@ fn read_last(is_there: bool, words: &[u64]) -> Result<(Option<u32>, &[u64]), Mis
     Ok((Some(number), rest))
 }
 
-/// No number is there twice.
-fn are_distinct(numbers: &Numbers) -> bool
-    requires { length numbers.now.pairs.now ≤ 32 }
-    ensures { result ≡ all_distinct (numbers_in numbers.now) }
+/// Whether a number is one of these.
+fn is_among(number: u32, pairs: &[u64], last: Option<u32>) -> bool
+    ensures { result
+        ≡ list_any (λ other. other == number) (flat_map split_word pairs.now ++ listed last) }
 {
-    let mut each = Buf::new();
-    for word in numbers.pairs {
-        each.push(u64::from(low_half(*word)));
-        each.push(u64::from(high_half(*word)));
+    let mut left = pairs;
+    while let [word, rest @ ..] = left {
+        if low_half(*word) == number || high_half(*word) == number {
+            return true;
+        }
+        left = rest;
     }
-    if let Some(last) = numbers.last {
-        each.push(u64::from(last));
-    }
-    has_no_equal(each.words())
+    last == Some(number)
 }
 
-fn has_no_equal(numbers: &[u64]) -> bool
-    ensures { result ≡ all_distinct numbers.now }
+/// Whether a number of this word stands in it twice or once more behind it.
+fn is_repeated(word: u64, pairs: &[u64], last: Option<u32>) -> bool
+    ensures { all_distinct (flat_map split_word (word ∷ pairs.now) ++ listed last)
+        ≡ not result && all_distinct (flat_map split_word pairs.now ++ listed last) }
 {
-    let mut left = numbers;
-    while let [first, rest @ ..] = left {
-        if rest.contains(first) {
+    let low = low_half(word);
+    let high = high_half(word);
+    low == high || is_among(low, pairs, last) || is_among(high, pairs, last)
+}
+
+/// No number is there twice.
+fn are_distinct(numbers: &Numbers) -> bool
+    ensures { result ≡ all_distinct (numbers_in numbers.now) }
+{
+    let mut left = numbers.pairs;
+    while let [word, rest @ ..] = left {
+        if is_repeated(*word, rest, numbers.last) {
             return false;
         }
         left = rest;

@@ -1,7 +1,10 @@
-use Rattle.std.proofs.Common.{◌≡◌, ◌*◌, length, take}
+use Rattle.std.proofs.Common.{◌≡◌, ◌++◌, length}
 use Rattle.std.specs.List.{flat_map}
-use Rattle.rec_words.specs.Reading.{split_word}
+use Rattle.rec_words.specs.Reading.{all_distinct, listed, numbers_in, split_word}
 use Rattle.rec_words.proofs.read.are_distinct.Given as goal
 
-abbrev pub invariant-loop-word : goal.invariant-loop-word
-invariant-loop-word l = (l.each ≡ flat_map split_word (take l.word-index l.numbers.pairs.now)) × (length l.each ≡ 2 * l.word-index)
+abbrev pub invariant-loop-left : goal.invariant-loop-left
+invariant-loop-left l = all_distinct (flat_map split_word l.left ++ listed l.fn.numbers.last) ≡ all_distinct (numbers_in l.fn.numbers)
+
+abbrev pub decreases-loop-left : goal.decreases-loop-left
+decreases-loop-left l = length l.left
