@@ -14,11 +14,11 @@ use Rattle.conf_lex.specs.Grammar.{ParseTree, yield, DerivesLongest, Derives, to
 use Rattle.conf_lex.specs.Sentences.{IsBegunWithin, IsTooDeep}
 use Rattle.expr_syntax.specs.Syntax.{rule}
 use Rattle.conf_syntax.specs.Syntax.{config}
-use Rattle.conf_tree.specs.Significant.{significant_of, significant_words, token_of}
+use Rattle.conf_words.specs.Significant.{significant_of, significant_words, token_of}
 use Rattle.conf_tree.specs.Sentence.{StopsAt}
 use Rattle.conf_laws.specs.Alike.{AreAlike}
-use Rattle.conf_tree.specs.declared.significant.Region.{Region}
-use Rattle.conf_tree.specs.declared.significant.Region.TheVariants as regions
+use Rattle.conf_words.specs.declared.significant.Region.{Region}
+use Rattle.conf_words.specs.declared.significant.Region.TheVariants as regions
 use Rattle.conf_laws.proofs.Decided.{sentences}
 use Rattle.conf_laws.proofs.KindTrees.{kinds_of, same_words, within_alike}
 use Rattle.conf_laws.proofs.Marks.{Mark, mark, marks, marks_both, sym_of, alone, colon_first, slash_first, sort_first, behind_one, folded, no_second, or_kind, first_kind, behind_kind, is_significant_kind, heard, heard_is, heard_both, front_heard, state, IsNext, place_at}

@@ -23,8 +23,8 @@ use Rattle.filt_syntax.specs.RefusedToken.{CanFollow, some_prefix, some_address,
 use Rattle.filt_syntax.specs.declared.refused_token.Torn.{Torn}
 use Rattle.filt_syntax.specs.declared.refused_token.Torn.TheVariants as torns
 use Rattle.conf_syntax.specs.Syntax.{config}
-use Rattle.conf_tree.specs.declared.significant.Region.{Region}
-use Rattle.conf_tree.specs.declared.significant.Region.TheVariants as regions
+use Rattle.conf_words.specs.declared.significant.Region.{Region}
+use Rattle.conf_words.specs.declared.significant.Region.TheVariants as regions
 use Rattle.conf_laws.proofs.KindTrees.{kinds_of, begun_alike, never_bad_prefix}
 use Rattle.conf_laws.proofs.SlashTrees.{prefix_follows}
 use Rattle.conf_laws.proofs.Marks.{Mark, sym_of, constant_kind, named_kind, unquoted, spelled_kind, alone, prefix_kind, colon_first, slash_first, sort_first, behind_one, folded, or_kind, first_kind, no_second, no_slash, behind_kind, is_significant_kind, heard, front_heard, state, heard_both, IsNext}

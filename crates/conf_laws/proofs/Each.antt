@@ -22,10 +22,11 @@ use Rattle.filt_syntax.specs.declared.parse.SyntaxFault.TheVariants as faults
 use Rattle.filt_syntax.specs.RefusedToken.{CanFollow}
 use Rattle.conf_syntax.specs.Syntax.{config}
 use Rattle.conf_tree.specs.Readers.{whole_at}
-use Rattle.conf_tree.specs.Significant.{significant_words, significant_starts, token_of}
+use Rattle.conf_words.specs.Bytes.{byte_of}
+use Rattle.conf_words.specs.Significant.{significant_words, significant_starts, token_of}
 use Rattle.conf_tree.specs.Sentence.{CanStand, EndsIn, is_one_of, statement_words, bgp_words, channel_words, import_words, IsUnsupported, a_kind, a_statement, a_bgp_option, a_channel_option, an_import, an_export, an_action, a_route, word_bytes, IsStop}
 use Rattle.conf_tree.specs.Position.{IsPlace}
-use Rattle.conf_tree.specs.Read.{byte_of, IsConfigText, IsRefusedText}
+use Rattle.conf_tree.specs.Read.{IsConfigText, IsRefusedText}
 use Rattle.conf_ast.specs.declared.kind.ConfKind.{ConfKind}
 use Rattle.conf_ast.specs.declared.kind.ConfKind.TheVariants as kinds
 use Rattle.conf_tree.proofs.Known.{one_front}

@@ -9,8 +9,8 @@ use Rattle.conf_scan.specs.declared.token.TokenKind.{TokenKind}
 use Rattle.conf_scan.specs.declared.token.TokenKind.TheVariants as token_kinds
 use Rattle.conf_lex.specs.declared.word.Word.TheVariants as words
 use Rattle.conf_lex.specs.Kind.{Kind, IsSymbol, kind_of, symbol, name}
-use Rattle.conf_tree.specs.declared.significant.Region.{Region}
-use Rattle.conf_tree.specs.declared.significant.Region.TheVariants as regions
+use Rattle.conf_words.specs.declared.significant.Region.{Region}
+use Rattle.conf_words.specs.declared.significant.Region.TheVariants as regions
 use Rattle.conf_laws.proofs.KindTrees.{kinds_of}
 use Rattle.conf_laws.proofs.Marks.{Mark, sym_of, alone, unquoted, spelled_kind, colon_first, slash_first, sort_first, behind_one, folded, or_kind, first_kind, no_slash, behind_kind, is_significant_kind, heard, front_heard, state}
 use Rattle.conf_laws.proofs.ByTokens.{is_open}

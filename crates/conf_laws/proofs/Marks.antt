@@ -15,10 +15,10 @@ use Rattle.conf_scan.specs.declared.token.TokenKind.{TokenKind}
 use Rattle.conf_scan.specs.declared.token.TokenKind.TheVariants as token_kinds
 use Rattle.conf_lex.specs.declared.word.Word.{Word}
 use Rattle.conf_lex.specs.Kind.{Kind, IsNumber, IsName, IsText, IsAddress, IsPrefix, IsNoPrefix, IsAttribute, IsConstant, IsSymbol, kind_of, name, symbol}
-use Rattle.conf_tree.specs.Significant.{behind, is_significant, significant}
+use Rattle.conf_words.specs.Significant.{behind, is_significant, significant}
 use Rattle.conf_laws.specs.Alike.{IsAlike, AreAlike}
-use Rattle.conf_tree.specs.declared.significant.Region.{Region}
-use Rattle.conf_tree.specs.declared.significant.Region.TheVariants as regions
+use Rattle.conf_words.specs.declared.significant.Region.{Region}
+use Rattle.conf_words.specs.declared.significant.Region.TheVariants as regions
 use Rattle.conf_laws.proofs.KindTrees.{kinds_of}
 
 -- ---- marks

@@ -19,7 +19,7 @@ use Rattle.conf_scan.specs.declared.token.TokenKind.TheVariants as kinds
 use Rattle.conf_lex.specs.declared.word.Word.{Word}
 use Rattle.conf_lex.specs.declared.word.Word.TheVariants as words
 use Rattle.conf_lex.specs.Kind.{Kind, IsAddress, IsAttribute, IsSymbol, kind_of}
-use Rattle.conf_tree.specs.declared.significant.Region.{Region}
+use Rattle.conf_words.specs.declared.significant.Region.{Region}
 use Rattle.conf_laws.proofs.Marks.{Mark, sym_of, alone, constant_kind, named_kind, unquoted, spelled_kind, colon_first, slash_first, sort_first, behind_one, folded, first_kind, behind_kind, is_significant_kind, heard}
 use Rattle.conf_laws.specs.Spaced.{IsSpelling, AreSpellings}
 

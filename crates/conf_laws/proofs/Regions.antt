@@ -10,8 +10,8 @@ use Rattle.conf_lex.proofs.Symbols.{same_symbol}
 use Rattle.expr_syntax.specs.Syntax.{rule, optional, semicolon}
 use Rattle.expr_syntax.specs.Levels.{Level, Form, group_level}
 use Rattle.conf_syntax.specs.Syntax.{config, statement, router_id, log, define, table, function, filter, protocol, device, protocol_of, protocol_end, ended_options, static_option, bgp_option, pipe_option}
-use Rattle.conf_tree.specs.declared.significant.Region.{Region}
-use Rattle.conf_tree.specs.declared.significant.Region.TheVariants as regions
+use Rattle.conf_words.specs.declared.significant.Region.{Region}
+use Rattle.conf_words.specs.declared.significant.Region.TheVariants as regions
 use Rattle.conf_laws.proofs.KindTrees.{kinds_of}
 use Rattle.conf_laws.proofs.Marks.{behind_kind, is_significant_kind}
 use Rattle.conf_laws.proofs.ByTokens.{kinds_both}

@@ -8,10 +8,10 @@ use Rattle.conf_lex.specs.declared.symbol.Symbol.TheVariants as sy
 use Rattle.conf_lex.specs.declared.word.Word.{Word}
 use Rattle.conf_lex.specs.Kind.{kind_of, name}
 use Rattle.conf_lex.proofs.Symbols.{is_symbol_word}
-use Rattle.conf_tree.specs.Significant.{is, behind, significant}
+use Rattle.conf_words.specs.Significant.{is, behind, significant}
 use Rattle.conf_laws.specs.Balanced.{Braces, Nothing, Plain, Braced, words_in, AreBraces, IsBalanced}
-use Rattle.conf_tree.specs.declared.significant.Region.{Region}
-use Rattle.conf_tree.specs.declared.significant.Region.TheVariants as regions
+use Rattle.conf_words.specs.declared.significant.Region.{Region}
+use Rattle.conf_words.specs.declared.significant.Region.TheVariants as regions
 
 abbrev words_of_pairs : List (ℕ × Word) → List Word
 words_of_pairs ps = map (λ p. p.1) ps

@@ -14,11 +14,11 @@ use Rattle.expr_syntax.specs.Syntax.{rule}
 use Rattle.filt_syntax.specs.declared.parse.SyntaxFault.TheVariants as faults
 use Rattle.filt_syntax.specs.RefusedToken.{CanFollow, some_prefix, IsPastFirst}
 use Rattle.conf_syntax.specs.Syntax.{config}
-use Rattle.conf_tree.specs.Significant.{significant, significant_of, significant_words}
+use Rattle.conf_words.specs.Significant.{significant, significant_of, significant_words}
 use Rattle.conf_tree.specs.Sentence.{IsStop, IsRefused}
 use Rattle.conf_laws.specs.Alike.{IsAlike, AreAlike, colon_next, IsBadPrefix, DecideAlike, IsNoSentence}
-use Rattle.conf_tree.specs.declared.significant.Region.{Region}
-use Rattle.conf_tree.specs.declared.significant.Region.TheVariants as regions
+use Rattle.conf_words.specs.declared.significant.Region.{Region}
+use Rattle.conf_words.specs.declared.significant.Region.TheVariants as regions
 use Rattle.conf_laws.proofs.KindTrees.{kinds_of, same_words}
 use Rattle.conf_laws.proofs.Marks.{Mark, mark, marks, marks_both, one_mark, same_marks, sym_of, colon_first, behind_kind, first_kind, heard, heard_is, heard_both, front_heard, state, IsNext, place_at}
 use Rattle.conf_laws.proofs.ByTokens.{IsBad, kinds_both, refuted}

@@ -4,8 +4,9 @@ use Rattle.conf_scan.specs.Lex.{Lexes}
 use Rattle.conf_scan.specs.Spans.{IsSpan, IsBetween}
 use Rattle.conf_scan.specs.declared.token.Token.{Token}
 use Rattle.filt_syntax.specs.declared.parse.SyntaxFault.TheVariants as faults
+use Rattle.conf_words.specs.Bytes.{byte_of}
 use Rattle.conf_tree.specs.Sentence.{IsRefused}
-use Rattle.conf_tree.specs.Read.{byte_of, IsRefusedText}
+use Rattle.conf_tree.specs.Read.{IsRefusedText}
 use Rattle.conf_laws.specs.Alike.{IsAlike, AreAlike, DecideAlike, IsNoSentence}
 use Rattle.conf_ast.specs.declared.kind.ConfKind.TheVariants as kinds
 use Rattle.conf_laws.proofs.TokenLaw.{by_tokens, by_end}

@@ -19,12 +19,13 @@ use Rattle.filt_syntax.specs.declared.parse.SyntaxFault.TheVariants as faults
 use Rattle.filt_syntax.specs.declared.refused_token.Torn.{Torn}
 use Rattle.filt_syntax.specs.declared.refused_token.Torn.TheVariants as torns
 use Rattle.conf_syntax.specs.Syntax.{config}
-use Rattle.conf_tree.specs.Significant.{significant_words}
+use Rattle.conf_words.specs.Bytes.{byte_of}
+use Rattle.conf_words.specs.Significant.{significant_words}
 use Rattle.conf_tree.specs.Sentence.{IsRefused}
-use Rattle.conf_tree.specs.Read.{byte_of, IsRefusedText}
+use Rattle.conf_tree.specs.Read.{IsRefusedText}
 use Rattle.conf_ast.specs.declared.kind.ConfKind.TheVariants as kinds
-use Rattle.conf_tree.specs.declared.significant.Region.{Region}
-use Rattle.conf_tree.specs.declared.significant.Region.TheVariants as regions
+use Rattle.conf_words.specs.declared.significant.Region.{Region}
+use Rattle.conf_words.specs.declared.significant.Region.TheVariants as regions
 use Rattle.conf_laws.proofs.KindTrees.{kinds_of}
 use Rattle.conf_laws.proofs.Marks.{Mark, mark, marks, marks_both, sym_of, first_kind, behind_kind, is_significant_kind, heard, front_heard, state, IsNext}
 use Rattle.syntax_laws.proofs.Pasts.{front_begun}

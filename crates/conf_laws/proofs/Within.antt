@@ -14,8 +14,8 @@ use Rattle.conf_lex.specs.declared.word.Word.TheVariants as words
 use Rattle.conf_lex.specs.Kind.{Kind, IsAddress, IsPrefix, IsNoPrefix, kind_of}
 use Rattle.filt_syntax.specs.RefusedToken.{torn_of, some_prefix, some_address}
 use Rattle.filt_syntax.specs.declared.refused_token.Torn.TheVariants as torns
-use Rattle.conf_tree.specs.declared.significant.Region.{Region}
-use Rattle.conf_tree.specs.declared.significant.Region.TheVariants as regions
+use Rattle.conf_words.specs.declared.significant.Region.{Region}
+use Rattle.conf_words.specs.declared.significant.Region.TheVariants as regions
 use Rattle.conf_laws.proofs.Marks.{Mark, sym_of, colon_first, slash_first, sort_first, behind_one, folded, or_kind, first_kind, behind_kind, is_significant_kind, heard, front_heard, state}
 use Rattle.conf_laws.proofs.ByTokens.{alone_by_kind, else_no_net, ip_first, is_net, is_open, not_both, open_address, open_says, slash_kind, slash_of_kind, torn_cond}
 use Rattle.conf_laws.specs.Spaced.{IsSpelling}

@@ -5,7 +5,7 @@ use Rattle.conf_lex.specs.declared.word.Word.{Word}
 use Rattle.conf_lex.specs.Sentences.{IsBegunWithin}
 use Rattle.expr_syntax.specs.Syntax.{rule}
 use Rattle.conf_syntax.specs.Syntax.{config}
-use Rattle.conf_tree.specs.Significant.{significant_words}
+use Rattle.conf_words.specs.Significant.{significant_words}
 use Rattle.conf_tree.specs.Sentence.{StopsAt}
 use Rattle.syntax_laws.proofs.Pasts.{front_is}
 

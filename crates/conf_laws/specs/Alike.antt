@@ -14,7 +14,7 @@ use Rattle.conf_lex.specs.Grammar.{ParseTree, yield, DerivesLongest}
 use Rattle.expr_syntax.specs.Syntax.{rule}
 use Rattle.filt_syntax.specs.RefusedToken.{CanFollow, some_prefix}
 use Rattle.conf_syntax.specs.Syntax.{config}
-use Rattle.conf_tree.specs.Significant.{significant_words, token_of}
+use Rattle.conf_words.specs.Significant.{significant_words, token_of}
 
 -- a token of one text and a token of another are of one kind and have the same bytes
 pub record IsAlike (text : List ℕ) (t : Token) (other : List ℕ) (u : Token) : Type 0 where

@@ -5,7 +5,7 @@
 use Rattle.std.specs.Prelude.{◌≡◌, true, false, List, [], ◌∷◌, ◌++◌}
 use Rattle.conf_lex.specs.declared.symbol.Symbol.TheVariants as sym
 use Rattle.conf_lex.specs.declared.word.Word.{Word}
-use Rattle.conf_tree.specs.Significant.{is}
+use Rattle.conf_words.specs.Significant.{is}
 
 -- words with braces in them, each closed
 pub data Braces : Type 0 where

@@ -9,7 +9,7 @@ use Rattle.conf_lex.specs.Grammar.{ParseTree, yield, DerivesLongest}
 use Rattle.expr_syntax.specs.Syntax.{rule}
 use Rattle.filt_syntax.specs.declared.parse.SyntaxFault.TheVariants as faults
 use Rattle.conf_syntax.specs.Syntax.{config}
-use Rattle.conf_tree.specs.Significant.{significant_words}
+use Rattle.conf_words.specs.Significant.{significant_words}
 use Rattle.conf_tree.specs.Sentence.{IsRefused}
 use Rattle.conf_tree.specs.Read.{IsConfigText}
 use Rattle.conf_laws.specs.Alike.{AreAlike}

@@ -6,8 +6,8 @@ ghost use Rattle.std.specs.List.{list_all};
 ghost use Rattle.conf_lex.specs.declared.symbol.Symbol.{Symbol};
 ghost use Rattle.conf_lex.specs.declared.word.Word.{Word};
 ghost use Rattle.conf_lex.specs.Kind.{kind_of, name};
-ghost use Rattle.conf_tree.specs.Significant.{is, significant};
-ghost use Rattle.conf_tree.specs.declared.significant.Region.TheVariants as regions;
+ghost use Rattle.conf_words.specs.Significant.{is, significant};
+ghost use Rattle.conf_words.specs.declared.significant.Region.TheVariants as regions;
 ghost use Rattle.conf_laws.specs.Balanced.{IsBalanced};
 
 use conf_lex::{Symbol, Word};

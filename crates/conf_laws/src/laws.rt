@@ -7,7 +7,7 @@ ghost use Rattle.conf_lex.specs.Sentences.{IsBegunWithin};
 ghost use Rattle.filt_syntax.specs.Parse.{IsSyntaxFault};
 ghost use Rattle.expr_syntax.specs.Syntax.{block, expr, rule};
 ghost use Rattle.conf_tree.specs.Read.{IsRefusedText};
-ghost use Rattle.conf_tree.specs.Significant.{significant_words};
+ghost use Rattle.conf_words.specs.Significant.{significant_words};
 ghost use Rattle.conf_tree.specs.Sentence.{StopsAt};
 ghost use Rattle.conf_syntax.specs.Syntax.{config};
 ghost use Rattle.conf_ast.specs.declared.kind.ConfKind.{ConfKind};

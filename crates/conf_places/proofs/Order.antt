@@ -10,11 +10,11 @@ use Rattle.conf_lex.specs.Grammar.{ParseTree, NoWords, Single, Snoc, DerivesLong
 use Rattle.expr_syntax.specs.Syntax.{rule}
 use Rattle.expr_syntax.specs.Rows.{row_after}
 use Rattle.conf_tree.specs.Read.{IsConfigText}
-use Rattle.conf_tree.specs.Significant.{significant, is_significant, behind}
+use Rattle.conf_words.specs.Significant.{significant, is_significant, behind}
 use Rattle.conf_syntax.specs.Syntax as forms
 use Rattle.conf_tree.specs.View.{statement_tree, statements_tree}
-use Rattle.conf_tree.specs.declared.significant.Region.{Region}
-use Rattle.conf_tree.specs.declared.significant.Region.TheVariants as regions
+use Rattle.conf_words.specs.declared.significant.Region.{Region}
+use Rattle.conf_words.specs.declared.significant.Region.TheVariants as regions
 use Rattle.conf_ast.specs.declared.configurations.Statement.{Statement}
 use Rattle.conf_ast.specs.Configurations.{Declaration, configuration_of, declaration_of}
 use Rattle.conf_places.specs.Configurations.{IsBefore, places}

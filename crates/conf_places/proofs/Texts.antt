@@ -16,9 +16,9 @@ use Rattle.conf_scan.specs.declared.token.TokenKind.{TokenKind}
 use Rattle.conf_scan.specs.declared.token.TokenKind.TheVariants as kinds
 use Rattle.conf_lex.specs.declared.word.Word.{Word}
 use Rattle.conf_lex.specs.declared.word.Word.TheVariants as words
-use Rattle.conf_tree.specs.Significant.{significant, is_significant, behind, significant_words}
-use Rattle.conf_tree.specs.declared.significant.Region.{Region}
-use Rattle.conf_tree.specs.declared.significant.Region.TheVariants as regions
+use Rattle.conf_words.specs.Significant.{significant, is_significant, behind, significant_words}
+use Rattle.conf_words.specs.declared.significant.Region.{Region}
+use Rattle.conf_words.specs.declared.significant.Region.TheVariants as regions
 use Rattle.conf_tree.specs.Read.{IsConfigText}
 use Rattle.conf_tree.specs.View.{statements_tree}
 use Rattle.conf_ast.specs.declared.configurations.Statement.{Statement}

@@ -6,9 +6,9 @@ use Rattle.conf_scan.specs.Spans.{IsSpan, IsBetween}
 use Rattle.conf_lex.specs.Words.{first_word, words_from, words_of}
 use Rattle.conf_scan.specs.declared.token.Token.{Token}
 use Rattle.conf_lex.specs.declared.word.Word.{Word}
-use Rattle.conf_tree.specs.declared.significant.Region.{Region}
-use Rattle.conf_tree.specs.declared.significant.Region.TheVariants as regions
-use Rattle.conf_tree.specs.Significant.{behind, is_significant, significant, significant_words}
+use Rattle.conf_words.specs.declared.significant.Region.{Region}
+use Rattle.conf_words.specs.declared.significant.Region.TheVariants as regions
+use Rattle.conf_words.specs.Significant.{behind, is_significant, significant, significant_words}
 
 pub words_few : (text : List ℕ) (i skip : ℕ) (ts : List Token) → length (words_from text i skip ts) ≤ length ts
 words_few text i skip [] = omega arith

@@ -9,7 +9,7 @@ use Rattle.conf_ast.specs.Names.{name_bytes}
 use Rattle.conf_ast.specs.declared.named.Name.{Name}
 use Rattle.conf_scan.specs.declared.token.Token.{Token}
 use Rattle.conf_lex.specs.declared.word.Word.{Word}
-use Rattle.conf_tree.specs.Significant.{significant_words}
+use Rattle.conf_words.specs.Significant.{significant_words}
 use Rattle.conf_tree.specs.View.{statement_tree, statements_tree}
 use Rattle.conf_ast.specs.Configurations as conf
 use Rattle.conf_ast.specs.Configurations.{declaration_of}

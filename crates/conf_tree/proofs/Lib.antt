@@ -17,11 +17,7 @@ pub mod Refusals
 mod RefusalsOnce
 pub mod RouteSteps
 pub mod RowSteps
-pub mod SignificantSteps
-pub mod SignificantWalks
-pub mod SpotSteps
 pub mod Tested
 pub mod TextRefusals
 pub mod TextsOnce
-pub mod TokenSteps
 pub mod Whole

@@ -20,7 +20,7 @@ use Rattle.conf_syntax.specs.Syntax.{config}
 use Rattle.conf_tree.specs.Readers.{whole_at, EndsInLast, StopsIn, IsTooDeepAt, IsRefusedAt}
 use Rattle.conf_tree.specs.declared.read.Refused.{Refused}
 use Rattle.conf_tree.specs.declared.read.Refused.TheVariants as refused
-use Rattle.conf_tree.specs.Significant.{significant_words, significant_starts, token_of}
+use Rattle.conf_words.specs.Significant.{significant_words, significant_starts, token_of}
 use Rattle.conf_tree.specs.Sentence.{word_bytes, IsUnsupported, IsKnown, Refuses, IsBadAt, IsSentence, IsStop, StopsAt, DeepensAt, IsRefused}
 use Rattle.conf_tree.proofs.Whole.{sentence_is, bad_is_stop, stop_is_bad, deep_is_deep, deep_is_fault}
 

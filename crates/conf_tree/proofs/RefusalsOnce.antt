@@ -5,7 +5,8 @@ use Rattle.conf_scan.specs.declared.token.Token.{Token}
 use Rattle.filt_syntax.specs.declared.parse.SyntaxFault.{SyntaxFault}
 use Rattle.filt_syntax.specs.declared.parse.SyntaxFault.TheVariants as faults
 use Rattle.conf_tree.specs.Sentence.{IsRefused}
-use Rattle.conf_tree.specs.Read.{byte_of, IsRefusedSo, IsRefusedText}
+use Rattle.conf_words.specs.Bytes.{byte_of}
+use Rattle.conf_tree.specs.Read.{IsRefusedSo, IsRefusedText}
 use Rattle.conf_ast.specs.declared.kind.ConfKind.{ConfKind}
 use Rattle.conf_ast.specs.declared.kind.ConfKind.TheVariants as kinds
 use Rattle.conf_tree.proofs.Refusals.{one_fault}

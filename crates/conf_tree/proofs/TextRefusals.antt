@@ -10,14 +10,15 @@ use Rattle.expr_syntax.specs.Syntax.{rule}
 use Rattle.filt_syntax.specs.declared.parse.SyntaxFault.{SyntaxFault}
 use Rattle.filt_syntax.specs.declared.parse.SyntaxFault.TheVariants as faults
 use Rattle.conf_syntax.specs.Syntax.{config}
-use Rattle.conf_tree.specs.Significant.{significant_words, token_of}
+use Rattle.conf_words.specs.Bytes.{byte_of}
+use Rattle.conf_words.specs.Significant.{significant_words, token_of}
 use Rattle.conf_tree.specs.Sentence.{word_bytes, IsStop, IsUnsupported, Refuses}
-use Rattle.conf_tree.specs.Read.{byte_of, fault_of, IsFault}
+use Rattle.conf_tree.specs.Read.{fault_of, IsFault}
 use Rattle.conf_ast.specs.declared.kind.ConfFault.{ConfFault}
 use Rattle.conf_ast.specs.declared.kind.ConfFault.TheVariants as outcomes
 use Rattle.conf_ast.specs.declared.kind.ConfKind.TheVariants as kinds
 use Rattle.conf_tree.proofs.Refusals.{stop_told, deep_told}
-use Rattle.conf_tree.proofs.TokenSteps.{byte_behind}
+use Rattle.conf_words.proofs.TokenSteps.{byte_behind}
 
 -- ---- a text without tokens
 

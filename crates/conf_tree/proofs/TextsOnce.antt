@@ -5,7 +5,7 @@ use Rattle.conf_scan.specs.declared.token.Token.{Token}
 use Rattle.conf_lex.specs.Grammar.{ParseTree}
 use Rattle.filt_syntax.specs.declared.parse.SyntaxFault.{SyntaxFault}
 use Rattle.filt_syntax.specs.declared.parse.SyntaxFault.TheVariants as faults
-use Rattle.conf_tree.specs.Significant.{significant_words}
+use Rattle.conf_words.specs.Significant.{significant_words}
 use Rattle.conf_tree.specs.Sentence.{IsSentence, IsRefused}
 use Rattle.conf_tree.specs.Read.{IsConfigText, IsRefusedText}
 use Rattle.conf_ast.specs.declared.kind.ConfKind.{ConfKind}

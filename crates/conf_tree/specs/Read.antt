@@ -5,13 +5,14 @@
 -- (conf_rules).
 -- From: own; the grammar is that of Syntax.
 -- Example: `template bgp t { } @` is refused at `@`.
-use Rattle.std.specs.Prelude.{◌≡◌, ◌≤◌, ◌⊎◌, ℕ, List, length, map, slice_index_or, Result, Ok, Err}
+use Rattle.std.specs.Prelude.{◌≡◌, ◌≤◌, ◌⊎◌, ℕ, List, Result, Ok, Err}
 use Rattle.conf_scan.specs.Lex.{Lexes, Stops}
 use Rattle.conf_scan.specs.declared.token.Token.{Token}
 use Rattle.conf_lex.specs.Grammar.{ParseTree}
 use Rattle.filt_syntax.specs.declared.parse.SyntaxFault.{SyntaxFault}
 use Rattle.filt_syntax.specs.declared.parse.SyntaxFault.TheVariants as faults
-use Rattle.conf_tree.specs.Significant.{significant_words}
+use Rattle.conf_words.specs.Bytes.{byte_of}
+use Rattle.conf_words.specs.Significant.{significant_words}
 use Rattle.conf_tree.specs.Sentence.{IsSentence, IsRefused}
 use Rattle.conf_tree.specs.View.{config_view}
 use Rattle.conf_ast.specs.declared.kind.ConfFault.{ConfFault}
@@ -19,10 +20,6 @@ use Rattle.conf_ast.specs.declared.kind.ConfFault.TheVariants as outcomes
 use Rattle.conf_ast.specs.declared.kind.ConfKind.{ConfKind}
 use Rattle.conf_ast.specs.declared.kind.ConfKind.TheVariants as refusals
 use Rattle.conf_ast.specs.declared.configurations.Config.{Config}
-
--- where a token begins; behind the last one the end of the text
-abbrev pub byte_of : List ℕ → List Token → ℕ → ℕ
-byte_of text tokens token = slice_index_or (map (λ t. t.at) tokens) token (length text)
 
 -- what is told of tokens that are refused
 abbrev pub fault_of : List ℕ → List Token → SyntaxFault → ConfFault

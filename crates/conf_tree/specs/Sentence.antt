@@ -9,16 +9,13 @@
 -- unsupported; `local path;` in a bgp protocol at `path`, as no sentence; `protocol else: x` at
 -- 1:10, as no sentence, since `else:` is a sign.
 use Rattle.std.specs.Prelude.{◌≡◌, ◌≢◌, ◌≤◌, ◌+◌, cond, ℕ, Bool, List, [], ◌∷◌, ◌++◌, length}
-use Rattle.std.specs.Prelude.{take, drop, codes, IsTrue, Option, Some, None, IsSomeAnd}
+use Rattle.std.specs.Prelude.{take, drop, codes, IsTrue, Option, None, IsSomeAnd}
 use Rattle.std.specs.List.{list_any}
 use Rattle.std.specs.Bool.{nat_eq}
 use Rattle.std.specs.Cmp.Lexicographic.{pointwise}
-use Rattle.conf_scan.specs.Spans.{slice_of}
 use Rattle.conf_lex.specs.declared.symbol.Symbol.{Symbol}
 use Rattle.conf_lex.specs.declared.symbol.Symbol.TheVariants as sym
 use Rattle.conf_scan.specs.declared.token.Token.{Token}
-use Rattle.conf_scan.specs.declared.token.TokenKind.{TokenKind}
-use Rattle.conf_scan.specs.declared.token.TokenKind.TheVariants as kinds
 use Rattle.conf_lex.specs.declared.word.Word.{Word}
 use Rattle.conf_lex.specs.declared.word.Word.TheVariants as words
 use Rattle.conf_lex.specs.Grammar.{ParseTree, yield, DerivesLongest, begins, too_deep}
@@ -29,7 +26,8 @@ use Rattle.filt_syntax.specs.RefusedToken.{IsPastAt}
 use Rattle.filt_syntax.specs.declared.parse.SyntaxFault.{SyntaxFault}
 use Rattle.filt_syntax.specs.declared.parse.SyntaxFault.TheVariants as faults
 use Rattle.conf_syntax.specs.Syntax.{config}
-use Rattle.conf_tree.specs.Significant.{significant_words, token_of}
+use Rattle.conf_words.specs.Bytes.{first_bytes}
+use Rattle.conf_words.specs.Significant.{significant_words, token_of}
 
 -- the words are a configuration of this tree, with no more than 64 levels in a block or an
 -- expression
@@ -99,17 +97,8 @@ pub data IsUnsupported (before : List Word) (word : List ℕ) : Type 0 where
   an_action : word ≡ codes "restart" → CanStand sym.Warn before → IsUnsupported before word
   a_route : word ≡ codes "recursive" → CanStand sym.Blackhole before → IsUnsupported before word
 
--- the bytes of a word without quotes
-abbrev pub kind_bytes : List ℕ → TokenKind → Option (List ℕ)
-kind_bytes slice kinds.Name = Some slice
-kind_bytes slice _ = None
-
--- the first token is such a word
-abbrev pub first_bytes : List ℕ → List Token → Option (List ℕ)
-first_bytes text [] = None
-first_bytes text (t ∷ ts) = kind_bytes (slice_of text t) t.kind
-
--- the same where the first of the words isn't a sign: `else` with a colon next is one
+-- the bytes of the first token, where it is a word without quotes and the first of the words isn't a
+-- sign: `else` with a colon next is one
 abbrev pub word_bytes : List Word → List ℕ → List Token → Option (List ℕ)
 word_bytes rest text tokens =
     cond (begins (symbol sym.ElseColon) rest) None (first_bytes text tokens)

@@ -2,11 +2,11 @@
 //! refused (`read_config`), and the line and column of a place (`place`). Four laws stand here, on
 //! which crates on the way to the program rest.
 //!
-//! Not in it: tokens (conf_scan) and words (conf_lex), the grammar, its parts that hold no filter and
-//! what words tell of the next one without a parser (conf_syntax), expressions (expr_syntax),
-//! statements and blocks of filters (filt_syntax), the other laws of what is defined here
-//! (conf_laws), configurations as plain data (conf_ast), and what is refused of names and values
-//! (conf_rules).
+//! Not in it: tokens (conf_scan) and words (conf_lex), those of a text that the grammar reads
+//! (conf_words), the grammar, its parts that hold no filter and what words tell of the next one
+//! without a parser (conf_syntax), expressions (expr_syntax), statements and blocks of filters
+//! (filt_syntax), the other laws of what is defined here (conf_laws), configurations as plain data
+//! (conf_ast), and what is refused of names and values (conf_rules).
 #![tactic(auto)]
 
 mod bgp;
@@ -22,7 +22,6 @@ mod position;
 mod protocol;
 mod read;
 mod refusal;
-mod significant;
 mod statement;
 mod static_routes;
 mod unsupported;

@@ -2,8 +2,8 @@
 
 ghost use Rattle.std.specs.Prelude.{◌≡◌, ◌<◌, ◌^◌, length, IfOk, IfErr};
 ghost use Rattle.conf_lex.specs.Grammar.{ParseTree};
-ghost use Rattle.conf_tree.specs.Marks.{AreMarks};
-ghost use Rattle.conf_tree.specs.Significant.{AreWordsOf};
+ghost use Rattle.conf_words.specs.Marks.{AreMarks};
+ghost use Rattle.conf_words.specs.Significant.{AreWordsOf};
 ghost use Rattle.conf_tree.specs.View.{config_view, statements_tree};
 ghost use Rattle.conf_tree.specs.Sentence.{IsSentence};
 ghost use Rattle.conf_tree.specs.Readers.{IsRefusedAt};
@@ -15,13 +15,13 @@ use crate::laws::{
     a_text_has_one_refusal, a_text_is_one_configuration, configurations_are_not_refused,
 };
 use crate::refusal::{deepened, stopped};
-use crate::significant::{Walked, walked_words};
 use conf_ast::configurations::{Config, Statement};
 use conf_ast::{ConfFault, ConfKind};
 use conf_lex::parsing::place_in;
 use conf_lex::{Refusal, Word};
 use conf_scan::LexFault;
 use conf_scan::laws::texts_are_refused_within;
+use conf_words::{Walked, walked_words};
 use filt_syntax::parts::LEVELS;
 use std::alloc::Global;
 

@@ -1,8 +1,8 @@
 // Why the words of a text are refused, and at which of its bytes.
 
-ghost use Rattle.std.specs.Prelude.{◌≡◌, ◌↔◌, ◌≤◌, ◌<◌, ◌^◌, List, [], None, Some, length, take};
+ghost use Rattle.std.specs.Prelude.{◌≡◌, ◌↔◌, ◌≤◌, ◌<◌, ◌^◌, List, None, Some, length, take};
 ghost use Rattle.std.specs.Prelude.{drop, IsTrue, IsSomeAnd, IfOk, OnOk, MatchOption};
-ghost use Rattle.conf_scan.specs.Spots.{IsSpot, IsStep, LexesFrom};
+ghost use Rattle.conf_scan.specs.Spots.{IsSpot, LexesFrom};
 ghost use Rattle.conf_scan.specs.declared.token.Token.{Token};
 ghost use Rattle.conf_lex.specs.declared.symbol.Symbol.TheVariants as sym;
 ghost use Rattle.conf_lex.specs.Grammar.{begins};
@@ -10,56 +10,23 @@ ghost use Rattle.conf_lex.specs.Kind.{symbol};
 ghost use Rattle.conf_lex.specs.Sentences.{IsBegunWithin};
 ghost use Rattle.expr_syntax.specs.Syntax.{rule};
 ghost use Rattle.conf_syntax.specs.Syntax.{config};
-ghost use Rattle.conf_tree.specs.Read.{byte_of, fault_of, IsFault, IsWithin};
-ghost use Rattle.conf_tree.specs.Sentence.{first_bytes, word_bytes, IsUnsupported, Refuses};
-ghost use Rattle.conf_tree.specs.Marks.{AreMarks};
-ghost use Rattle.conf_tree.specs.Significant.{AreWordsOf};
+ghost use Rattle.conf_words.specs.Marks.{AreMarks};
+ghost use Rattle.conf_words.specs.Significant.{AreWordsOf};
+ghost use Rattle.conf_tree.specs.Read.{fault_of, IsFault, IsWithin};
+ghost use Rattle.conf_tree.specs.Sentence.{word_bytes, IsUnsupported, Refuses};
 ghost use Rattle.conf_tree.specs.Readers.{StopsIn, IsTooDeepAt};
 
 use crate::followed::Configurations;
-use crate::significant::{Walked, mark_before, spot_of};
 use crate::unsupported::is_unsupported;
 use bits_ip::OutOfMemory;
 use conf_ast::{ConfFault, ConfKind};
 use conf_lex::parsing::is_symbol;
 use conf_lex::{Symbol, Word};
-use conf_scan::{Spot, Token, TokenKind, next_token};
+use conf_scan::Spot;
+use conf_words::{Walked, byte_past, bytes_ahead, mark_before, spot_of};
 use filt_syntax::SyntaxFault;
 use filt_syntax::parts::{bad_behind, tail, tear_of};
 use std::alloc::Global;
-
-// The token that stands next, and the place behind it.
-fn token_ahead(text: &[u8], spot: Spot) -> Option<(Token, Spot)>
-    requires { IsSpot text.now spot }
-    ensures { MatchOption result
-        ((tokens : List Token) → LexesFrom text.now spot tokens → tokens ≡ [])
-        (λ found. IsStep text.now spot found.0 found.1) }
-{
-    match next_token(text, spot) {
-        Ok(found) => found,
-        Err(_) => None,
-    }
-}
-
-// Where the token begins that is so many behind the one that stands next; behind the last one the
-// end of the text.
-fn byte_past(text: &[u8], spot: Spot, past: usize) -> usize
-    requires { IsSpot text.now spot }
-    ensures is { (tokens : List Token) → LexesFrom text.now spot tokens
-        → result ≡ byte_of text.now tokens past }
-    ensures within { result ≤ length text.now }
-{
-    let mut left = past;
-    let mut here = spot;
-    while let Some((token, behind)) = token_ahead(text, here) {
-        if left == 0 {
-            return token.at;
-        }
-        left -= 1;
-        here = behind;
-    }
-    text.len()
-}
 
 // What is told of a refusal at so many tokens behind the one that stands next.
 fn told(text: &[u8], spot: Spot, fault: SyntaxFault) -> ConfFault
@@ -85,23 +52,8 @@ fn told(text: &[u8], spot: Spot, fault: SyntaxFault) -> ConfFault
     }
 }
 
-// The bytes of the token that stands next, where it is a word without quotes.
-fn bytes_ahead<'a>(text: &'a [u8], spot: Spot) -> Option<&'a [u8]>
-    requires { IsSpot text.now spot }
-    ensures { (tokens : List Token) → LexesFrom text.now spot tokens
-        → MatchOption result (first_bytes text.now tokens ≡ None)
-        (λ word. first_bytes text.now tokens ≡ Some word.now) }
-{
-    match token_ahead(text, spot) {
-        Some((token, _)) => match token.kind {
-            TokenKind::Name => Some(token.bytes(text)),
-            _ => None,
-        },
-        None => None,
-    }
-}
-
-// The same, unless the words begin with the sign of `else` and a colon.
+// The bytes of the token that stands next, where it is a word without quotes, unless the words begin
+// with the sign of `else` and a colon.
 fn word_bytes<'a>(text: &'a [u8], spot: Spot, rest: &[Word]) -> Option<&'a [u8]>
     requires { IsSpot text.now spot }
     ensures { (tokens : List Token) → LexesFrom text.now spot tokens

@@ -8,7 +8,7 @@ use Rattle.conf_lex.specs.Grammar.{ParseTree, DerivesLongest, yield}
 use Rattle.expr_syntax.specs.Syntax.{rule}
 use Rattle.conf_tree.specs.Position.{IsPlace}
 use Rattle.conf_tree.specs.Read.{IsConfigText, IsRefusedText}
-use Rattle.conf_tree.specs.Significant.{significant_words}
+use Rattle.conf_words.specs.Significant.{significant_words}
 use Rattle.conf_syntax.specs.Syntax.{config}
 use Rattle.conf_tree.specs.View.{statements_tree}
 use Rattle.conf_ast.specs.declared.kind.ConfKind.{ConfKind}

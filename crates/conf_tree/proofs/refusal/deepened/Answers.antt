@@ -1,6 +1,6 @@
 use Rattle.std.proofs.Common.{List, sym, subst}
-use Rattle.conf_tree.specs.Marks.{AreMarks}
-use Rattle.conf_tree.specs.declared.significant.Mark.{Mark}
+use Rattle.conf_words.specs.Marks.{AreMarks}
+use Rattle.conf_words.specs.declared.significant.Mark.{Mark}
 use Rattle.conf_tree.proofs.TextRefusals.{deepened_fault}
 use Rattle.conf_tree.proofs.refusal.deepened.Goals as goal
 

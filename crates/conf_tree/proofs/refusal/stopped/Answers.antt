@@ -3,10 +3,10 @@ use Rattle.conf_lex.specs.declared.word.Word.{Word}
 use Rattle.conf_lex.specs.Sentences.{IsBegunWithin}
 use Rattle.expr_syntax.specs.Syntax.{rule}
 use Rattle.conf_syntax.specs.Syntax.{config}
-use Rattle.conf_tree.specs.Marks.{AreMarks}
+use Rattle.conf_words.specs.Marks.{AreMarks}
 use Rattle.conf_tree.specs.Sentence.{word_bytes, IsUnsupported, Refuses}
-use Rattle.conf_tree.specs.Significant.{token_of}
-use Rattle.conf_tree.specs.declared.significant.Mark.{Mark}
+use Rattle.conf_words.specs.Significant.{token_of}
+use Rattle.conf_words.specs.declared.significant.Mark.{Mark}
 use Rattle.conf_tree.proofs.LastStatement.{from_within, place_last, begun_last, refuses_last}
 use Rattle.conf_tree.proofs.TextRefusals.{stopped_fault}
 use Rattle.conf_tree.proofs.refusal.stopped.Goals as goal

@@ -1,0 +1,4 @@
+pub mod SignificantSteps
+pub mod SignificantWalks
+pub mod SpotSteps
+pub mod TokenSteps
