@@ -1,4 +1,5 @@
 mod Adjacent
+mod BehindNets
 mod BehindRoutes
 pub mod Ends
 pub mod FirstWords

@@ -52,3 +52,14 @@ pub record EndsItem (words : List Word) : Type 0 where
   pub last : Word
   pub cut : words ≡ front ++ last ∷ []
   pub is : is_item_end (kind_of last) ≡ true
+
+-- ---- routes
+
+-- the words end in `route` and a prefix
+pub record EndsNet (words : List Word) : Type 0 where
+  pub front : List Word
+  pub opener : Word
+  pub net : Word
+  pub cut : words ≡ (front ++ opener ∷ []) ++ net ∷ []
+  pub opens : symbol sym.Route (kind_of opener) ≡ true
+  pub is : prefix (kind_of net) ≡ true

@@ -7,7 +7,7 @@ ghost use Rattle.conf_lex.specs.Kind.{kind_of, prefix, symbol};
 ghost use Rattle.conf_lex.specs.Sentences.{IsBegun};
 ghost use Rattle.expr_syntax.specs.Syntax.{rule};
 ghost use Rattle.conf_syntax.specs.Syntax.{config};
-ghost use Rattle.conf_syntax.specs.Pairs.{is_item_end, EndsItem, IsInSet};
+ghost use Rattle.conf_syntax.specs.Pairs.{is_item_end, EndsItem, EndsNet, IsInSet};
 
 use crate::apart::is_prefix;
 use crate::sets::{is_in_set, opens_set};
@@ -86,8 +86,28 @@ fn end_before_prefix(words: &[Word]) -> bool
     }
 }
 
+fn is_blackhole(word: &Word) -> bool
+    ensures { result ≡ symbol sym.Blackhole (kind_of word.now) }
+{
+    is_symbol(word, Symbol::Blackhole)
+}
+
+// Whether these words end in `route` and a prefix.
+fn ends_net(words: &[Word]) -> bool
+    ensures { IsTrue result → EndsNet words.now }
+{
+    let Some((net, before)) = words.split_last() else {
+        return false;
+    };
+    match before.split_last() {
+        Some((opener, _front)) => is_route(opener) && is_prefix(net),
+        None => false,
+    }
+}
+
 /// Whether the last of these words can stand behind the others, if they begin a configuration: a
-/// prefix behind `route`, and in a set behind its bracket or behind a prefix or a pair and a comma.
+/// prefix behind `route`, and in a set behind its bracket or behind a prefix or a pair and a comma;
+/// and `blackhole` behind `route` and a prefix.
 pub fn is_joined(words: &[Word]) -> bool
     ensures { IsTrue result → (front : List Word) (w : Word) → words.now ≡ front ++ w ∷ []
         → IsBegun rule config front → IsBegun rule config words.now }
@@ -97,6 +117,9 @@ pub fn is_joined(words: &[Word]) -> bool
     };
     if is_prefix(word) {
         return end_before_prefix(before);
+    }
+    if is_blackhole(word) {
+        return ends_net(before);
     }
     false
 }
