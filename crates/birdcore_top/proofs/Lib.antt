@@ -5,3 +5,4 @@ pub mod Joined
 pub mod Outcomes
 pub mod Decided
 pub mod Owed
+mod Lent

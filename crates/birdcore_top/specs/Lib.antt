@@ -1,4 +1,5 @@
 pub mod Command
+pub mod Given
 pub mod Outcome
 pub mod Answer
 pub mod Written

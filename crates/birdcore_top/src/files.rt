@@ -9,7 +9,8 @@ ghost use Rattle.conf_system.specs.Coded.{AllCanRun, CanRunOver};
 ghost use Rattle.conf_system.specs.Seen.{filter_says, system_of};
 ghost use Rattle.birdcore_top.specs.Outcome.{OverLimit, Played, Configures, ConfGives, IsConfigured, PlayGives, ScriptGives};
 ghost use Rattle.birdcore_top.specs.Answer.{AreMissedInTurn, IsMissed, FindsLackedBy, IsReadStatus, Stops};
-ghost use Rattle.phases_out.specs.Given.{AskWhatIs, FitTables, NameSome, phases_read, setup_read};
+ghost use Rattle.phases_out.specs.Given.{AskWhatIs, FitTables, NameSome};
+ghost use Rattle.birdcore_top.specs.Given.{phases_read, setup_read};
 
 use crate::status::Status;
 use conf_system::{System, read_system};

@@ -5,11 +5,12 @@ ghost use Rattle.birdcore_top.specs.Command.{Check, Play, Run, command_of};
 
 use crate::files::{Files, read_conf, read_files};
 use crate::laws::files_have_one_outcome;
+use crate::play::play_phases;
+use crate::run::run_phases;
 use crate::status::Status;
 use crate::words::{Asked, asked_by};
 use crate::write::write_accepted;
 use outside_io::{Gate, Shelf, Sink};
-use phases_out::{play_phases, run_phases};
 use report::Form;
 use std::alloc::Global;
 use std::random::RandomSource;

@@ -1,2 +1,2 @@
-mod Writing
-mod Running
+pub mod Writing
+pub mod Running

@@ -5,19 +5,9 @@ use Rattle.std.proofs.lemmas.List.Elements.{All-head, All-tail}
 use Rattle.std.specs.Global.{Global}
 use Rattle.std.specs.List.{All}
 use Rattle.std.specs.Prelude.{Result, Ok, Err, IsErrAnd}
-use Rattle.attrs.specs.declared.judge.Verdict.{Verdict}
-use Rattle.attrs.specs.declared.route.Route.{Route}
-use Rattle.bits_ip.specs.Prefix.{Net}
-use Rattle.conf_system.specs.Policies.{Filter}
-use Rattle.conf_system.specs.System.{System}
 use Rattle.core_setup.specs.Setup.{Setup}
 use Rattle.script_lines.specs.declared.script.Line.{Line}
-use Rattle.show_route.specs.declared.query.Query.{Query}
-use Rattle.sys_build.specs.Setups.{setup_of}
-use Rattle.sys_run.specs.Parts.{setup_seen}
 use Rattle.sys_run.specs.Scripts.{FitsLine}
-use Rattle.sys_run.specs.declared.parts.ProtocolParts.{ProtocolParts}
-use Rattle.sys_run.specs.declared.parts.TableParts.{TableParts}
 use Rattle.sys_threads.specs.Running.{CanPlay, NamesSome}
 use Rattle.sys_threads.specs.declared.fault.RunFault.{RunFault}
 use Rattle.sys_threads.specs.declared.fault.RunFault.TheVariants as faults
@@ -95,20 +85,3 @@ ending_is one other is = cc
 pub stops_so : (late : Type 0) (ends : Ending → Type 0) (stop : Stop) → (stop ≡ Late → late) → ((ending : Ending) → stop ≡ With ending → ends ending) → StopsSo late ends stop
 stops_so late ends Late is_late ended = is_late refl
 stops_so late ends (With ending) is_late ended = ended ending refl
-
--- ---- what is lent
-
--- what is said of two things is said of what they are
-pub in_both : {A B : Type 0} (P : A → B → Type 0) (a c : A) (b d : B) → a ≡ c → b ≡ d → P a b → P c d
-in_both {A = A} {B = B} P a c b d same alike is = subst (λ (x : B). P c x) alike (subst (λ (x : A). P x b) same is)
-
--- what is lent of the parts of a configuration is what is to be played of it
-pub lent_is : {J F : Type 0} (verdict : J → Net → Route → Verdict) (says : F → Filter) (tables ts : List TableParts) (protocols ps : List (ProtocolParts J)) (cells : ℕ) (choices cs : List J) (queries : List Query) (system : System) (filters fs : List F)
-    → tables ≡ ts → protocols ≡ ps → choices ≡ cs → filters ≡ fs → setup_seen verdict ts ps cells cs queries ≡ setup_of system cells (map says filters) queries
-    → setup_seen verdict tables protocols cells choices queries ≡ setup_of system cells (map says fs) queries
-lent_is {J = J} {F = F} verdict says tables ts protocols ps cells choices cs queries system filters fs same alike equal as_many is =
-    ap (λ (t : List TableParts). setup_seen verdict t protocols cells choices queries) same
-    ∙ ap (λ (p : List (ProtocolParts J)). setup_seen verdict ts p cells choices queries) alike
-    ∙ ap (λ (j : List J). setup_seen verdict ts ps cells j queries) equal
-    ∙ is
-    ∙ ap (λ (f : List F). setup_of system cells (map says f) queries) as_many

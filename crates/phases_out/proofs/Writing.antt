@@ -30,8 +30,8 @@ use Rattle.sys_run.specs.Playing.{PlaysTo}
 use Rattle.sys_run.specs.Scripts.{phase_of}
 use Rattle.sys_run.specs.declared.player.Core.{Core}
 use Rattle.sys_threads.specs.declared.runner.Runner.{Runner}
-use Rattle.phases_out.specs.Inside.{CutsOff, Ends, HasWritten, PlayedBy, RunBy}
-use Rattle.phases_out.specs.Written.{ArePlayed, AreRun, HasBegun, HasPlayed, text_so_far}
+use Rattle.phases_out.specs.Inside.{CutsOff, HasWritten, PlayedBy, RunBy}
+use Rattle.phases_out.specs.Written.{ArePlayed, AreRun, Ends, HasBegun, HasPlayed, text_so_far}
 use Rattle.phases_out.specs.declared.ending.Ending.{Ending}
 use Rattle.phases_out.specs.declared.ending.Ending.TheVariants.{OutOfMemory, SinkFailed, Written}
 

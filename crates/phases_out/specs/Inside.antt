@@ -1,5 +1,5 @@
 -- For private contracts alone: what is written while phases are played (`PlayedBy`) or run by
--- threads (`RunBy`), phase by phase (`HasWritten`, `RunsOne`), and how that ends (`Ends`).
+-- threads (`RunBy`), phase by phase (`HasWritten`, `RunsOne`), and why that stops (`StopsSo`).
 use Rattle.std.specs.Prelude.{◌≡◌, ◌⊎◌, ℕ, List, [], ◌∷◌, ◌++◌, map, Option, ⊤}
 use Rattle.std.specs.Io.KnownBytes.{Appends}
 use Rattle.std.specs.List.{flat_map}
@@ -8,9 +8,7 @@ use Rattle.attrs.specs.declared.route.Route.{Route}
 use Rattle.bits_ip.specs.Prefix.{Net}
 use Rattle.core_machine.specs.Lines as machine
 use Rattle.core_setup.specs.Setup.{Setup}
-use Rattle.outside_io.specs.Faults.{Rose}
-use Rattle.outside_io.specs.Whole.{WritesFront}
-use Rattle.report.specs.Report.{report_text, text_in}
+use Rattle.report.specs.Report.{text_in}
 use Rattle.report.specs.declared.phase.Form.{Form}
 use Rattle.report.specs.declared.phase.PhaseReport.{PhaseReport}
 use Rattle.script_lines.specs.declared.script.Line.{Line}
@@ -21,9 +19,8 @@ use Rattle.sys_threads.specs.Running as threads
 use Rattle.sys_threads.specs.declared.fault.RunFault.{RunFault}
 use Rattle.sys_threads.specs.declared.fault.RunFault.TheVariants as faults
 use Rattle.sys_threads.specs.declared.runner.Runner.{Runner}
-use Rattle.phases_out.specs.Written.{HasBegun, HasPlayed, text_so_far}
 use Rattle.phases_out.specs.declared.ending.Ending.{Ending}
-use Rattle.phases_out.specs.declared.ending.Ending.TheVariants.{OutOfMemory, SinkFailed, Written}
+use Rattle.phases_out.specs.declared.ending.Ending.TheVariants.{OutOfMemory, SinkFailed}
 use Rattle.phases_out.specs.declared.run.Stop.{Stop}
 use Rattle.phases_out.specs.declared.run.Stop.TheVariants.{Late, With}
 
@@ -45,20 +42,6 @@ pub record HasWritten
   pub reports : List PhaseReport
   pub played : Has (map (phase_of setup.queries) phases) reports
   pub written : Appends before after (flat_map (text_in form) reports)
-
--- What is owed of phases with this ending; the output has failed so often before and after.
-pub record Ends
-    (Are : List (List Line) → List PhaseReport → Type 0) (phases : List (List Line)) (form : Form)
-    (before after : Option (List ℕ)) (faults faults_after : ℕ) (ending : Ending) : Type 0 where
-  pub report : ending ≡ Written
-      → HasPlayed Are phases (λ reports. Appends before after (report_text form reports))
-  pub front : ending ≡ SinkFailed
-      → HasBegun Are phases
-      (λ more reports. WritesFront before after (text_so_far form more reports))
-  pub begun : ending ≡ OutOfMemory
-      → HasBegun Are phases
-      (λ more reports. Appends before after (flat_map (text_in form) reports))
-  pub write : ending ≡ SinkFailed → Rose faults faults_after
 
 -- why it ends before all is written
 abbrev pub CutsOff : Ending → Type 0

@@ -2,7 +2,7 @@ use Rattle.std.proofs.Common.{Err, ap, length, map}
 use Rattle.sys_build.specs.Names.{named_of}
 use Rattle.conf_system.specs.Seen.{filter_says, system_of}
 use Rattle.birdcore_top.specs.Outcome.{Played}
-use Rattle.phases_out.specs.Given.{phases_read, setup_read}
+use Rattle.birdcore_top.specs.Given.{phases_read, setup_read}
 use Rattle.birdcore_top.specs.declared.status.Status.{Status}
 use Rattle.birdcore_top.proofs.Asking.{all_ask, all_name_some}
 use Rattle.birdcore_top.proofs.Joined.{conf_stopped, err_is, in_turn, lacked_script, over, script_stopped, stops_as}

@@ -1,7 +1,7 @@
 use Rattle.std.proofs.Common.{Err, Some, ap}
 use Rattle.std.proofs.KnownBytes.{Keeps-refl}
 use Rattle.birdcore_top.specs.Command.{Check, usual_cells}
-use Rattle.phases_out.specs.Given.{phases_read, setup_read}
+use Rattle.birdcore_top.specs.Given.{phases_read, setup_read}
 use Rattle.birdcore_top.specs.declared.status.Status.{Status}
 use Rattle.birdcore_top.proofs.Owed.{accepted, stopped, stops_check}
 use Rattle.birdcore_top.proofs.top.check_files.Goals as goal

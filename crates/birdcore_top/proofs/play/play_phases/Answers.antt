@@ -1,7 +1,7 @@
-use Rattle.phases_out.specs.Given.{phases_read, setup_read}
 use Rattle.phases_out.specs.Written.{ArePlayed}
 use Rattle.phases_out.proofs.Writing.{none_played, not_begun}
-use Rattle.phases_out.proofs.play.play_phases.Goals as goal
+use Rattle.birdcore_top.specs.Given.{phases_read, setup_read}
+use Rattle.birdcore_top.proofs.play.play_phases.Goals as goal
 
 pub returns-in_default-clause-begun : goal.returns-in_default-clause-begun
 returns-in_default-clause-begun g c = λ is.

@@ -1,9 +1,9 @@
 use Rattle.std.proofs.Common.{map}
 use Rattle.sys_run.specs.Scripts.{phase_of}
-use Rattle.phases_out.specs.Given.{phases_read, setup_read}
 use Rattle.phases_out.specs.Written.{ArePlayed, AreRun}
 use Rattle.phases_out.proofs.Writing.{ends_so}
-use Rattle.phases_out.proofs.run.run_coded.Goals as goal
+use Rattle.birdcore_top.specs.Given.{phases_read, setup_read}
+use Rattle.birdcore_top.proofs.run.run_coded.Goals as goal
 
 pub returns-in-Some : goal.returns-in-Some
 returns-in-Some g c = c.in-Some.ensures
