@@ -1,4 +1,3 @@
-mod AnsweredOnce
 mod AskedOnce
 mod Numbers
 mod Policies

@@ -1,8 +1,8 @@
 //! What texts say, and what it is worth that a configuration is accepted.
 //!
-//! A text says one thing at most of a system, as a condition or as a script (`said`). The policies of
-//! the system that a text comes to run only filters that are written there, which are never stuck and
-//! end within 10,000,000 steps (`laws`, `specs/Texts`). No program calls what stands here.
+//! A text says one thing at most of a system, or as a condition (`said`). The policies of the system
+//! that a text comes to run only filters that are written there, which are never stuck and end within
+//! 10,000,000 steps (`laws`, `specs/Texts`). No program calls what stands here.
 #![tactic(auto)]
 
 pub mod laws;

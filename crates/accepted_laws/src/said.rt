@@ -1,12 +1,11 @@
-//! What texts say: each one thing at most, of a system, as a condition or as a script, and those of
-//! conditions and scripts always one.
-ghost use Rattle.std.specs.Prelude.{◌≡◌, ◌⊎◌, ◌<◌, ◌-◌, ◌^◌, ℕ, Bool, length, List};
+//! What texts say: each one thing at most, of a system or as a condition, and those of conditions
+//! always one.
+ghost use Rattle.std.specs.Prelude.{◌≡◌, ◌⊎◌, ◌<◌, ◌-◌, ◌^◌, ℕ, length, List};
 ghost use Rattle.conf_ast.specs.declared.kind.ConfKind.{ConfKind};
 ghost use Rattle.conf_system.specs.Conditions.{IsCondition, RefusesCondition};
 ghost use Rattle.conf_system.specs.Policies.{Filter};
 ghost use Rattle.conf_system.specs.System.{System};
 ghost use Rattle.conf_system.specs.Texts.{IsRefusedAt, IsSystem};
-ghost use Rattle.sys_build.specs.Scripts.{Answer, Answers};
 
 use ast_laws::laws::{a_text_is_one_syntax, a_tree_is_of_one_expression};
 use conf_scan::laws::{
@@ -15,7 +14,6 @@ use conf_scan::laws::{
 use conf_tree::laws::{
     a_text_has_one_refusal, configurations_are_not_refused, places_have_one_line_and_column,
 };
-use script_lines::laws as lines;
 use syntax_laws::expressions::each_tree_is_of_an_expression;
 use syntax_laws::readings::{
     each_text_is_parsed_or_refused, parsed_texts_are_not_refused, texts_have_one_tree_and_one_end,
@@ -62,24 +60,4 @@ pub fn each_text_is_a_condition_or_is_refused()
     tokens_rise();
     each_text_is_parsed_or_refused();
     each_tree_is_of_an_expression();
-}
-
-/// A text has one answer at most over a system: it is a script, with its queries and what its
-/// conditions ask for, or it is refused, in one line for one reason.
-pub fn a_text_has_one_answer()
-    ensures { (system : System) (schedule : Bool) (text : List ℕ) (a b : Answer)
-        → Answers system schedule text a → Answers system schedule text b → a ≡ b }
-{
-    lines::a_text_has_one_answer();
-    conditions_ask_for_one_thing();
-}
-
-/// Each text has an answer.
-pub fn each_text_has_an_answer()
-    ensures { (system : System) (schedule : Bool) (text : List ℕ) → length text < 2 ^ 32 - 1
-        → (answer : Answer) × Answers system schedule text answer }
-{
-    lines::each_text_has_an_answer();
-    lines::conditions_are_short();
-    each_text_is_a_condition_or_is_refused();
 }

@@ -1,3 +1,4 @@
+mod AnsweredOnce
 pub mod Cells
 pub mod Asking
 pub mod Judged

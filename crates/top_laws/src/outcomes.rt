@@ -5,7 +5,7 @@ ghost use Rattle.birdcore_top.specs.Command.{Command, conf_of, script_of};
 ghost use Rattle.birdcore_top.specs.Outcome.{Held, Outcome, IsRequired};
 ghost use Rattle.top_laws.specs.Says.{SaysSomething};
 
-use accepted_laws::said::each_text_has_an_answer;
+use birdcore_top::laws::each_text_has_an_answer;
 use conf_laws::readings::{
     each_place_has_a_line_and_a_column, each_text_is_a_configuration_or_is_refused,
     each_tree_is_of_a_configuration,

@@ -1,5 +1,5 @@
-use Rattle.accepted_laws.proofs.AnsweredOnce.{answer_told}
-use Rattle.accepted_laws.proofs.said.each_text_has_an_answer.Goals as goal
+use Rattle.birdcore_top.proofs.AnsweredOnce.{answer_told}
+use Rattle.birdcore_top.proofs.laws.each_text_has_an_answer.Goals as goal
 
 pub returns : goal.returns
 returns c =

@@ -1,5 +1,5 @@
-use Rattle.accepted_laws.proofs.AnsweredOnce.{answers_agree}
-use Rattle.accepted_laws.proofs.said.a_text_has_one_answer.Goals as goal
+use Rattle.birdcore_top.proofs.AnsweredOnce.{answers_agree}
+use Rattle.birdcore_top.proofs.laws.a_text_has_one_answer.Goals as goal
 
 pub returns : goal.returns
 returns c =
