@@ -1,36 +1,28 @@
 -- What has gone on by turns that leave its marks.
-use Rattle.std.proofs.Common.{◌≡◌, ◌≤◌, ◌+◌, ℕ, true, false, List, length, Some, None, refl, sym, ap, subst, ◌∙◌, arith}
+use Rattle.std.proofs.Common.{◌≡◌, ℕ, List, length, Some, None, sym, ap, subst, ◌∙◌}
 use Rattle.std.specs.Prelude.{Option, slice_get}
-use Rattle.std.specs.List.{AllByRecursion}
 use Rattle.atomic_table.specs.Seated.{TableId}
 use Rattle.attrs.specs.declared.judge.Verdict.{Verdict}
-use Rattle.attrs.specs.declared.route.Change.{Change}
 use Rattle.attrs.specs.declared.route.Route.{Route}
 use Rattle.attrs.specs.declared.route.Src.{Src}
 use Rattle.bits_ip.specs.Prefix.{Net}
-use Rattle.core_setup.proofs.Numbered.{all_at}
-use Rattle.core_setup.proofs.PairLemmas.{get_here, get_one, get_within}
+use Rattle.core_setup.proofs.PairLemmas.{get_one, get_within}
 use Rattle.import_core.specs.declared.operation.Op.{Op}
 use Rattle.jour_rule.specs.Laws.{AreOfMakers}
-use Rattle.jour_rule.specs.declared.views.Entry.{Entry}
 use Rattle.jour_rule.specs.declared.views.Terms.{Terms}
 use Rattle.jour.specs.Seats.{front}
 use Rattle.table_shared.specs.Opening.{TableOpening}
-use Rattle.phase_legal.specs.Shown.{AreBeside, HandView}
-use Rattle.import_lock.specs.Terms.{ImportTerms}
+use Rattle.phase_legal.specs.Shown.{HandView}
 use Rattle.export_lock.specs.Kept.{LeavesFlush}
 use Rattle.export_lock.specs.Lanes.{LaneTerms}
 use Rattle.export_lock.specs.LaneTurns.{AreSources}
-use Rattle.export_lock.specs.Terms.{ExportTerms}
 use Rattle.export_lock.specs.declared.lane.PipeLane.{PipeLane}
 use Rattle.export_lock.specs.declared.state.ExportState.{ExportState}
-use Rattle.phase_room.specs.Sessions.{IsChannelOf}
 use Rattle.pipe_lock.specs.Terms.{DirectionTerms, PipeTerms, ops_told}
 use Rattle.phase_pipes.specs.Sessions.{IsDirectionIn}
-use Rattle.phase_close.specs.Closed.{AreLater, IsLater, SessionTerms}
-use Rattle.phase_close.specs.Left.{AreChannelsLeft, IsSessionLeft}
+use Rattle.phase_close.specs.Closed.{AreLater, IsLater}
 use Rattle.phase_close.specs.declared.session.SessionLeft.{SessionLeft}
-use Rattle.phase_close.proofs.Ending.{all_placed, later_over}
+use Rattle.phase_close.proofs.Ending.{later_over}
 use Rattle.pipe_close.specs.Ended.{IsPipeOver}
 use Rattle.pipe_close.specs.Left.{ArePipeTurns, IsLaneLeft, IsPipeLeft, PipeLocks}
 use Rattle.pipe_close.specs.declared.close.PipeLeft.{PipeLeft}

@@ -1,5 +1,5 @@
 -- Heads that are raised, and what stays below them.
-use Rattle.std.proofs.Common.{◌≡◌, ◌&&◌, Bool, true, false, ◌+◌, ◌<◌, ◌≤◌, ℕ, inl, inr, List, [], ◌∷◌, ◌++◌, get_or, length, set, take, refl, sym, ap, subst, ◌∙◌, arith}
+use Rattle.std.proofs.Common.{◌≡◌, ◌+◌, ◌<◌, ◌≤◌, ℕ, inl, inr, List, [], ◌∷◌, ◌++◌, get_or, length, set, take, refl, sym, ap, subst, ◌∙◌, arith}
 use Rattle.std.proofs.lemmas.List.{take_more}
 use Rattle.std.proofs.lemmas.Option.{slice_get_read}
 use Rattle.core_setup.proofs.Numbered.{all_append, all_at}
@@ -41,12 +41,6 @@ module _ {J : Type 0} (a b : List ℕ) (raised : Raises a b) where
 
   pub all_below_on : (ms : List (MemberLeft J)) → AllByRecursion (IsBelow a) ms → AllByRecursion (IsBelow b) ms
   all_below_on ms low = all_weaker (IsBelow a) (IsBelow b) below_on ms low
-
--- both are so, where `&` says so
-pub both : (a b : Bool) → (a && b) ≡ true → (a ≡ true) × (b ≡ true)
-both true true w = (refl, w)
-both true false w = absurd (let bad : false ≡ true = w in cc)
-both false b w = absurd (let bad : false ≡ true = w in cc)
 
 -- ---- a loop over all
 

@@ -1,5 +1,5 @@
 //! Whether all that is up is at rest.
-ghost use Rattle.std.specs.Prelude.{◌≡◌, IsTrue};
+ghost use Rattle.std.specs.Prelude.{◌≡◌, ◌↔◌, IsTrue};
 ghost use Rattle.std.specs.List.{AllByRecursion};
 ghost use Rattle.pipe_rest.specs.Heads.{HasRead, HasReadOf, PipeHasRead, RestsAt, head_at};
 
@@ -21,7 +21,7 @@ fn head_at(heads: &[u64], table: u32) -> u64
 
 /// Whether what reads a table is down, or at rest at no less than this head.
 fn rests_at<J: Judge>(state: &ExportState<J>, head: u64) -> bool
-    ensures { IsTrue result → RestsAt head state.now }
+    ensures { IsTrue result ↔ RestsAt head state.now }
 {
     let known = state.cursor.known();
     let down = !state.exporter.is_up();
@@ -29,7 +29,7 @@ fn rests_at<J: Judge>(state: &ExportState<J>, head: u64) -> bool
 }
 
 fn own_has_read<J: Judge>(session: &SessionLeft<J>, heads: &[u64]) -> bool
-    ensures { IsTrue result → HasReadOf heads.now session.now.table session.now.channel }
+    ensures { IsTrue result ↔ HasReadOf heads.now session.now.table session.now.channel }
 {
     match &session.channel {
         Some(state) => rests_at(state, head_at(heads, session.table)),
@@ -38,7 +38,7 @@ fn own_has_read<J: Judge>(session: &SessionLeft<J>, heads: &[u64]) -> bool
 }
 
 fn pipe_has_read<J: Judge>(pipe: &PipeLeft<J>, heads: &[u64]) -> bool
-    ensures { IsTrue result → PipeHasRead heads.now pipe.now }
+    ensures { IsTrue result ↔ PipeHasRead heads.now pipe.now }
 {
     let out = rests_at(&pipe.out.state, head_at(heads, pipe.primary));
     let back = rests_at(&pipe.back.state, head_at(heads, pipe.peer));
@@ -48,7 +48,7 @@ fn pipe_has_read<J: Judge>(pipe: &PipeLeft<J>, heads: &[u64]) -> bool
 /// Whether each channel and each direction of a protocol that is up is at rest, at no less than the
 /// head of the table that it reads.
 pub fn has_read<J: Judge>(member: &MemberLeft<J>, heads: &[u64]) -> bool
-    ensures { IsTrue result → HasRead heads.now member.now }
+    ensures { IsTrue result ↔ HasRead heads.now member.now }
 {
     match member {
         MemberLeft::Own(session) => own_has_read(session, heads),
@@ -58,11 +58,12 @@ pub fn has_read<J: Judge>(member: &MemberLeft<J>, heads: &[u64]) -> bool
 
 /// The same of all.
 pub fn have_read<J: Judge>(members: &[MemberLeft<J>], heads: &[u64]) -> bool
-    ensures { IsTrue result → AllByRecursion (HasRead heads.now) members.now }
+    ensures { IsTrue result ↔ AllByRecursion (HasRead heads.now) members.now }
 {
-    let mut all = true;
     for member in members {
-        all = has_read(member, heads) & all;
+        if !has_read(member, heads) {
+            return false;
+        }
     }
-    all
+    true
 }
