@@ -1,5 +1,5 @@
 -- A protocol that enters a room whose tables begin with what stood.
-use Rattle.std.proofs.Common.{◌≡◌, ℕ, ◌<◌, List, length, reverse, Option, Some, None, sym, ap, subst, ◌∙◌}
+use Rattle.std.proofs.Common.{◌≡◌, ℕ, ◌<◌, List, length, reverse, Option, Some, None, refl, sym, ap, subst, ◌∙◌}
 use Rattle.std.specs.Prelude.{slice_get}
 use Rattle.std.specs.declared.alloc.Global.{Global}
 use Rattle.std.specs.declared.vec.Vec.{Vec}
@@ -10,6 +10,7 @@ use Rattle.bits_ip.specs.Prefix.{Net}
 use Rattle.export_core.specs.Standing.{is_open}
 use Rattle.export_core.specs.States.{State}
 use Rattle.jour_rule.specs.Moves.{position_of}
+use Rattle.jour_rule.specs.declared.views.Terms.{Terms}
 use Rattle.jour.specs.Seats.{front, journal}
 use Rattle.core_setup.specs.Setup.{Exports}
 use Rattle.core_setup.proofs.PairLemmas.{get_one, get_within, other_here}
@@ -19,11 +20,13 @@ use Rattle.phase_legal.specs.Shown.{AreBeside}
 use Rattle.phase_room.specs.Entering.{IsNewChannel, IsNewSession, StandsIn}
 use Rattle.phase_room.specs.Opened.{IsCursorOf}
 use Rattle.phase_room.specs.Parts.{IsChannelPart}
-use Rattle.phase_room.specs.Rooms.{table_terms}
+use Rattle.phase_room.specs.Rooms.{BeginsTable, IsOwnPort, table_terms}
 use Rattle.phase_room.specs.Sessions.{channel_terms}
 use Rattle.phase_room.specs.Stands.{StandsChannel}
 use Rattle.phase_room.specs.declared.parts.ChannelPart.{ChannelPart}
 use Rattle.phase_room.specs.declared.session.Session.{Session}
+use Rattle.phase_room.proofs.Standing.{own_port_is}
+use Rattle.table_shared.specs.Opening.{TableOpening}
 use Rattle.phase_open.specs.Laid.{CanEnter, CursorView, HasCursors, IsOpenPart, TableView}
 use Rattle.phase_open.specs.Opening.{AreOpenChannels, IsOpenSession, IsOpenTable}
 use Rattle.phase_open.specs.Standing.{AreStandingChannels, IsStandingChannel, IsStandingProtocol, table_stood}
@@ -49,6 +52,9 @@ module _ {J : Type 0} (verdict : J → Net → Route → Verdict) (phase : Phase
   abbrev pub home : (here : TableView) × (slice_get tables held.table ≡ Some here) × IsOpenTable phase held.table is.stood here
   home = other_here (IsOpenTable phase) stood tables can.laid.tables_are held.table is.stood is.stood_is
 
+  pub here_begins : home.0.1 ≡ table_terms phase.setup is.source.table (table_stood is.stood)
+  here_begins = home.2 ∙ ap (λ n. table_terms phase.setup n (table_stood is.stood)) is.table_is
+
   abbrev pub stands_in : StandsIn verdict phase tables number held.table held.importer
   stands_in = record {
     source = is.source;
@@ -56,7 +62,8 @@ module _ {J : Type 0} (verdict : J → Net → Route → Verdict) (phase : Phase
     here = home.0;
     here_is = home.1;
     stood = table_stood is.stood;
-    begins = home.2 ∙ ap (λ n. table_terms phase.setup n (table_stood is.stood)) is.table_is;
+    begins = subst (BeginsTable (table_stood is.stood)) (sym here_begins) (record { start = refl; family = refl; rows = refl });
+    own_port = subst (λ (t : Terms TableOpening). IsOwnPort number t.opening) (sym here_begins) (own_port_is verdict phase number is.source (table_stood is.stood) held.importer is.stands);
     stands = is.stands;
   }
 

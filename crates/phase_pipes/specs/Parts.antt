@@ -17,10 +17,10 @@ use Rattle.import_lock.specs.Terms.{PhaseTerms}
 use Rattle.jour_rule.specs.Moves.{position_of}
 use Rattle.jour_rule.specs.declared.views.Terms.{Terms}
 use Rattle.jour.specs.Seats.{front, journal, number_of, own}
-use Rattle.phase_room.specs.Rooms.{TableTerms}
+use Rattle.phase_room.specs.Rooms.{BeginsTable, TableTerms}
 use Rattle.phase_room.specs.Stands.{StandsTable}
 use Rattle.table_shared.specs.Opening.{TableOpening}
-use Rattle.phase_pipes.specs.Ports.{BeginsTable, EntersAlone}
+use Rattle.phase_pipes.specs.Ports.{EntersAlone}
 use Rattle.phase_pipes.specs.Stands.{IsDirectionOf, StandsDirection, StandsPipe}
 use Rattle.phase_pipes.specs.declared.parts.DirectionPart.{DirectionPart}
 use Rattle.phase_pipes.specs.declared.parts.PipePart.{PipePart}

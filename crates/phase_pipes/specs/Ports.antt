@@ -1,7 +1,7 @@
 -- Which sources the ports of a table have where pipes enter it (`ports_with_pipes`): a protocol's
 -- port has the protocol where it imports to the table, and a pipe's the sources that its direction
 -- to that table passes. So the port of a direction has all that it passes, and no other port has any
--- of it (`EntersAlone`). What a table's journal begins with, of what stands in it (`BeginsTable`).
+-- of it (`EntersAlone`).
 -- Entries before the phase are in their order.
 -- Not modelled: where journals keep their words, and how rows are kept.
 -- From: BIRD User's Guide, "Pipe"; ports are own.
@@ -23,12 +23,6 @@ use Rattle.table_shared.specs.Opening.{TableOpening, sources_of}
 pub record EntersAlone (rules : Rules) (d : ℕ) (opening : TableOpening) (port : ℕ) : Type 0 where
   pub mine : (num : ℕ) → passes rules d num ≡ true → Contains (sources_of opening port) num
   pub alone : IsAlone (passes rules d) opening port
-
--- what the journal of a table begins with has what stands in the table
-pub record BeginsTable (stood : TableTerms) (terms : Terms TableOpening) : Type 0 where
-  pub start : terms.start ≡ length stood.before
-  pub family : terms.opening.family ≡ stood.family
-  pub rows : terms.opening.rows ≡ stood.rows
 
 -- ---- by number
 

@@ -1,5 +1,5 @@
 //! Laws of pipes in a phase.
-ghost use Rattle.std.specs.Prelude.{◌≡◌, ◌==◌, ◌∷◌, ◌++◌, ℕ, Contains, List, [], Some, length, reverse, true};
+ghost use Rattle.std.specs.Prelude.{◌≡◌, ◌∷◌, ◌++◌, ℕ, List, [], Some, length, reverse, true};
 ghost use Rattle.atomic_table.specs.Seated.{TableId};
 ghost use Rattle.attrs.specs.declared.journal.JEntry.{JEntry};
 ghost use Rattle.attrs.specs.declared.route.Change.{Change};
@@ -23,7 +23,6 @@ ghost use Rattle.import_lock.specs.Calls.{IsRoomOf};
 ghost use Rattle.jour_rule.specs.declared.views.Entry.{Entry};
 ghost use Rattle.jour_rule.specs.declared.views.View.{View as Seat};
 ghost use Rattle.phase_ends.specs.Leaves.{HasEntered, IsMarked};
-ghost use Rattle.phase_legal.specs.Changes.{IsAlone};
 ghost use Rattle.phase_legal.specs.Shown.{Room};
 ghost use Rattle.phase_legal.specs.Stamps.{AreUpTo};
 ghost use Rattle.phase_pipes.specs.First.{one_pipe, open_exporter};
@@ -33,9 +32,8 @@ ghost use Rattle.phase_pipes.specs.Sessions.{IsDirectionIn};
 ghost use Rattle.phase_pipes.specs.Sources.{AreSourcesOf};
 ghost use Rattle.phase_pipes.specs.Stands.{IsDirectionOf, StandsDirection, StandsPipe};
 ghost use Rattle.phase_room.specs.First.{first_phase, nothing_in};
-ghost use Rattle.phase_room.specs.Rooms.{TableTerms};
+ghost use Rattle.phase_room.specs.Rooms.{BeginsTable, IsOwnPort, TableTerms};
 ghost use Rattle.pipe_lock.specs.Terms.{DirectionTerms, PipeTerms, past_ops};
-ghost use Rattle.table_shared.specs.Opening.{sources_of};
 
 use attrs::Judge;
 use core_setup::laws::setups_are_as_asked;
@@ -53,7 +51,8 @@ pub fn directions_know_their_sources()
 
 /// Where the ports of a table have the sources that pipes bring, the port of a direction that writes
 /// the table has just those that it passes, and no other port has any of them. The port of a protocol
-/// that imports to the table has this protocol alone, as where there is no pipe.
+/// that imports to the table has this protocol alone, as where there is no pipe. The table's journal
+/// begins with what stands there.
 pub fn each_source_has_one_port()
     ensures out { (setup : Setup) (number out back : ℕ) (protocol : Protocol) (pipe : Pipe)
         (stood : TableTerms) → IsSetup setup → protocol_at setup number ≡ Some protocol
@@ -71,8 +70,9 @@ pub fn each_source_has_one_port()
     ensures own { (setup : Setup) (number : ℕ) (protocol : Protocol) (source : Source)
         (stood : TableTerms) → IsSetup setup → protocol_at setup number ≡ Some protocol
         → protocol.body ≡ IsSource source
-        → Contains (sources_of (joined_terms setup source.table stood).opening number) number
-        × IsAlone (λ num. num == number) (joined_terms setup source.table stood).opening number }
+        → IsOwnPort number (joined_terms setup source.table stood).opening }
+    ensures begins { (setup : Setup) (number : ℕ) (stood : TableTerms)
+        → BeginsTable stood (joined_terms setup number stood) }
 {
     setups_are_as_asked();
 }

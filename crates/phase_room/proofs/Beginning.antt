@@ -22,8 +22,8 @@ use Rattle.phase_room.proofs.Standing.{can_import, source_seats}
 pub part_can_import : {J : Type 0} (verdict : J → Net → Route → Verdict) (phase : PhaseTerms) (stood : TableTerms) (here : TableId × Terms TableOpening) (part : ProtocolPart J) → IsProtocolPart verdict phase stood here part
     → (hands : ℕ) (turns : TableId × Seat ℕ) (stamp : Option (TableId × Seat ℕ)) → turns.1.seen.terms ≡ turns_terms hands → hands ≡ phase.starter + 1 → front turns.1 ≡ [] → IfSome stamp IsUnused → CanImport verdict phase part.number part.importer part.port turns stamp
 part_can_import verdict phase stood here part p hands turns stamp terms many unturned unused =
-    can_import verdict phase part.number p.source stood part.importer here.0 part.port turns stamp p.stands
-    (source_seats phase p.source stood here p.begins part.number hands part.port turns stamp p.port p.port_number p.unmade terms many unturned unused)
+    can_import verdict phase part.number p.source stood part.importer p.stands here part.port turns stamp
+    (source_seats phase part.number stood here p.begins p.own_port hands part.port turns stamp p.port p.port_number p.unmade terms many unturned unused)
 
 pub hands_given : (key : ImportTerms) (phase : PhaseTerms) (number : ℕ) (port : TableId × Seat TableOpening) (turns : TableId × Seat ℕ) (stamp : Option (TableId × Seat ℕ)) (hands : List (TableId × Seat ℕ)) → key ≡ import_terms phase number port turns stamp → AreMakers (journal turns) hands → AreMakers key.turns hands
 hands_given key phase number port turns stamp hands e are = subst (λ z. AreMakers z hands) (sym (ap (λ (z : ImportTerms). z.turns) e)) are

@@ -36,7 +36,7 @@ use Rattle.import_lock.specs.declared.state.ImportState.{ImportState}
 use Rattle.import_lock.specs.declared.state.OpFault.{OpFault}
 use Rattle.import_lock.specs.declared.state.OpRecord.{OpRecord}
 use Rattle.import_lock.specs.declared.state.OpFault.TheVariants.{Memory}
-use Rattle.import_lock.proofs.Marking.{marked, nothing_due, with_mark}
+use Rattle.import_lock.proofs.Marking.{marked, nothing_due}
 use Rattle.export_lock.specs.Kept.{Goes, IsExports, MayMark}
 use Rattle.export_lock.specs.Terms.{ExportTerms}
 use Rattle.export_lock.specs.declared.state.ExportState.{ExportState}

@@ -15,6 +15,7 @@ use Rattle.table_shared.specs.Opening.{TableOpening}
 use Rattle.phase_room.specs.Entering.{IsNewSession, StandsIn}
 use Rattle.phase_room.specs.Opened.{IsPortOf}
 use Rattle.phase_room.specs.Parts.{IsProtocolPart}
+use Rattle.phase_room.specs.Rooms.{IsOwnPort}
 use Rattle.phase_room.specs.Stands.{StandsSource}
 use Rattle.phase_room.specs.declared.session.Session.{Session}
 
@@ -28,6 +29,7 @@ module _ {J : Type 0} (verdict : J → Net → Route → Verdict) (phase : Phase
     source = s.source;
     table_is = s.home_is;
     begins = s.begins;
+    own_port = subst (λ k. IsOwnPort k s.here.1.opening) (sym e) s.own_port;
     stands = subst (λ k. StandsSource verdict phase k s.source s.stood importer) (sym e) s.stands;
     port = port_is.0;
     port_number = port_is.1 ∙ sym e;

@@ -4,6 +4,7 @@ use Rattle.std.specs.Prelude.{◌==◌, Contains, IfSome, if◌then◌else◌, s
 use Rattle.std.specs.List.{AllByRecursion}
 use Rattle.std.proofs.lemmas.Bool.{eqb-true}
 use Rattle.atomic_table.specs.Seated.{TableId}
+use Rattle.attrs.specs.Table.{route_in}
 use Rattle.attrs.specs.declared.judge.Verdict.{Verdict}
 use Rattle.attrs.specs.declared.route.Route.{Route}
 use Rattle.bits_ip.specs.Address.{family_of}
@@ -28,7 +29,7 @@ use Rattle.import_lock.specs.Begun.{IsUnused}
 use Rattle.import_lock.specs.Terms.{AreTerms, PhaseTerms}
 use Rattle.phase_room.specs.Journals.{turns_terms}
 use Rattle.phase_room.specs.Locks.{CanExport, CanImport, export_terms, import_terms}
-use Rattle.phase_room.specs.Rooms.{TableTerms, homes, ports_of, table_terms}
+use Rattle.phase_room.specs.Rooms.{BeginsTable, IsOwnPort, TableTerms, homes, ports_of, table_terms}
 use Rattle.phase_room.specs.Stands.{AreChannelSeats, AreSeats, StandsChannel, StandsSource, StandsTable}
 use Rattle.phase_room.specs.Together.{AreTogether}
 
@@ -72,19 +73,14 @@ fixed_all : (found : Option Family) (family : Family) (fs : List Fixed) → foun
 fixed_all found family [] is all = tt
 fixed_all found family (f ∷ fs) is all = (some_same (sym all.0 ∙ is), fixed_all found family fs is all.1)
 
-module _ {J : Type 0} (verdict : J → Net → Route → Verdict) (phase : PhaseTerms) (number : ℕ) (source : Source) (table : TableTerms) (importer : Importing J) (id : TableId) (port : TableId × Seat TableOpening) (turns : TableId × Seat ℕ) (stamp : Option (TableId × Seat ℕ))
-    (s : StandsSource verdict phase number source table importer) (seats : AreSeats phase number source table id port turns stamp) where
-  abbrev opening_now : TableOpening
-  opening_now = (table_terms phase.setup source.table table).opening
-
-  opening_is : port.1.seen.terms.opening ≡ opening_now
-  opening_is = ap (λ z. z.1.opening) seats.port
-
-  family_is : port.1.seen.terms.opening.family ≡ table.family
-  family_is = ap (λ z. z.family) opening_is
-
+module _ {J : Type 0} (verdict : J → Net → Route → Verdict) (phase : PhaseTerms) (number : ℕ) (source : Source) (table : TableTerms) (importer : Importing J) (s : StandsSource verdict phase number source table importer) where
   fits : FitsSource phase.setup.tables number source
   fits = subst (FitsBody phase.setup.tables number) s.body (protocol_is phase.setup number s.protocol s.setup s.protocol_is)
+
+  -- ---- where there are no pipes
+
+  abbrev opening_now : TableOpening
+  opening_now = (table_terms phase.setup source.table table).opening
 
   home_is : slice_get (homes phase.setup) number ≡ Some source.table
   home_is = home_at (length phase.setup.tables) phase.setup.protocols number s.protocol s.protocol_is ∙ ap (λ z. Some (table_in (length phase.setup.tables) z)) s.body
@@ -94,53 +90,68 @@ module _ {J : Type 0} (verdict : J → Net → Route → Verdict) (phase : Phase
       subst (λ l. Contains l number) (sym (port_mine source.table 0 number (homes phase.setup) home_is ∙ ap (λ z. z ∷ []) (let e : number + 0 ≡ number = omega arith in e)))
       (0, omega arith, refl)
 
-  any_is : (other num : ℕ) → Contains (sources_of port.1.seen.terms.opening other) num → num ≡ other
-  any_is other num w = port_any source.table 0 other num (homes phase.setup) (subst (λ z. Contains (sources_of z other) num) opening_is w) ∙ (let e : other + 0 ≡ other = omega arith in e)
+  any_is : (other num : ℕ) → Contains (sources_of opening_now other) num → num ≡ other
+  any_is other num w = port_any source.table 0 other num (homes phase.setup) w ∙ (let e : other + 0 ≡ other = omega arith in e)
 
-  alone_is : IsAlone (λ num. num == number) port.1.seen.terms.opening (number_of port.1.role)
-  alone_is = record {
-    mine = λ num w. ap (λ z. z == number) (any_is (number_of port.1.role) num w ∙ seats.port_number) ∙ itself_is number;
-    alone = λ other num w same. sym (any_is other num w) ∙ eqb-true num number same ∙ sym seats.port_number;
-  }
-
-  terms_are : AreTerms (import_terms phase number port turns stamp) source
-  terms_are = record {
-    setup = s.setup;
-    protocol = s.protocol;
-    protocol_is = s.protocol_is;
-    body = s.body;
-    mine = subst (λ z. Contains (sources_of z (number_of port.1.role)) number) (sym opening_is) (subst (λ z. Contains (sources_of opening_now z) number) (sym seats.port_number) mine_is);
-    alone = alone_is;
-    opening = λ net. ap (λ z. at_first z net number) opening_is ∙ s.rows net;
-    fixed = subst (λ z. AllByRecursion (λ f. family_of f.net.addr ≡ z) source.spec.fixed) (sym family_is) (fixed_all (family_at phase.setup.tables source.table) table.family source.spec.fixed s.family fits.fixed);
-    past = subst (λ z. AllByRecursion (IsOfFamily z) (ops_of (phase.past number))) (sym family_is) s.past;
-    start = ap (λ z. z.start) seats.turns;
-    cursors = ap (λ z. z.cursors) seats.turns;
-    makers = ap (λ z. z.opening) seats.turns ∙ sym (ap (λ z. z.makers) seats.turns);
-  }
-
-  pub can_import : CanImport verdict phase number importer port turns stamp
-  can_import = record {
-    source = source;
-    terms = terms_are;
-    begins = record {
-      importer = s.importer;
-      port = refl;
-      port_number = refl;
-      unmade = seats.unmade;
-      turns = refl;
-      unturned = seats.unturned;
-      marks = refl;
-      unused = seats.unused;
+  pub own_port_is : IsOwnPort number opening_now
+  own_port_is = record {
+    mine = mine_is;
+    alone = record {
+      mine = λ num w. ap (λ z. z == number) (any_is number num w) ∙ itself_is number;
+      alone = λ other num w same. sym (any_is other num w) ∙ eqb-true num number same;
     };
   }
 
+  -- ---- its lock
+
+  module _ (here : TableId × Terms TableOpening) (port : TableId × Seat TableOpening) (turns : TableId × Seat ℕ) (stamp : Option (TableId × Seat ℕ)) (seats : AreSeats phase number table here port turns stamp) where
+    opening_is : port.1.seen.terms.opening ≡ here.1.opening
+    opening_is = ap (λ z. z.1.opening) seats.port
+
+    family_is : port.1.seen.terms.opening.family ≡ table.family
+    family_is = ap (λ z. z.family) opening_is ∙ seats.begins.family
+
+    own_is : IsOwnPort (number_of port.1.role) here.1.opening
+    own_is = subst (λ z. IsOwnPort z here.1.opening) (sym seats.port_number) seats.own_port
+
+    terms_are : AreTerms (import_terms phase number port turns stamp) source
+    terms_are = record {
+      setup = s.setup;
+      protocol = s.protocol;
+      protocol_is = s.protocol_is;
+      body = s.body;
+      mine = subst (λ (z : ℕ × TableOpening). Contains (sources_of z.1 z.0) number) (λ i. (sym seats.port_number i, sym opening_is i)) seats.own_port.mine;
+      alone = subst (λ (z : ℕ × TableOpening). IsAlone (λ num. num == number) z.1 z.0) (λ i. (sym seats.port_number i, sym opening_is i)) seats.own_port.alone;
+      opening = λ net. ap (λ z. at_first z net number) opening_is ∙ ap (λ rows. route_in rows net number) seats.begins.rows ∙ s.rows net;
+      fixed = subst (λ z. AllByRecursion (λ f. family_of f.net.addr ≡ z) source.spec.fixed) (sym family_is) (fixed_all (family_at phase.setup.tables source.table) table.family source.spec.fixed s.family fits.fixed);
+      past = subst (λ z. AllByRecursion (IsOfFamily z) (ops_of (phase.past number))) (sym family_is) s.past;
+      start = ap (λ z. z.start) seats.turns;
+      cursors = ap (λ z. z.cursors) seats.turns;
+      makers = ap (λ z. z.opening) seats.turns ∙ sym (ap (λ z. z.makers) seats.turns);
+    }
+
+    pub can_import : CanImport verdict phase number importer port turns stamp
+    can_import = record {
+      source = source;
+      terms = terms_are;
+      begins = record {
+        importer = s.importer;
+        port = refl;
+        port_number = refl;
+        unmade = seats.unmade;
+        turns = refl;
+        unturned = seats.unturned;
+        marks = refl;
+        unused = seats.unused;
+      };
+    }
+
 -- ---- its channel
 
-module _ {J : Type 0} (verdict : J → Net → Route → Verdict) (phase : PhaseTerms) (number : ℕ) (source : Source) (table : TableTerms) (exports : Exports) (exporter : State J) (id : TableId) (cursor : (TableId × Seat TableOpening) × Bool) (marks : TableId × Seat ℕ)
-    (t : StandsTable table) (s : StandsChannel verdict phase number exports table exporter) (seats : AreChannelSeats phase source table id (is_open exporter.log) cursor marks) where
+module _ {J : Type 0} (verdict : J → Net → Route → Verdict) (phase : PhaseTerms) (number : ℕ) (table : TableTerms) (exports : Exports) (exporter : State J) (here : TableId × Terms TableOpening) (cursor : (TableId × Seat TableOpening) × Bool) (marks : TableId × Seat ℕ)
+    (t : StandsTable table) (s : StandsChannel verdict phase number exports table exporter) (seats : AreChannelSeats table here (is_open exporter.log) cursor marks) where
   start_is : cursor.0.1.seen.terms.start ≡ length table.before
-  start_is = ap (λ z. z.1.start) seats.cursor
+  start_is = ap (λ z. z.1.start) seats.cursor ∙ seats.begins.start
 
   pub can_export : CanExport verdict exports table.before (reverse exporter.log) exporter cursor marks
   can_export = record {
@@ -153,10 +164,10 @@ module _ {J : Type 0} (verdict : J → Net → Route → Verdict) (phase : Phase
     here = refl;
     unread = seats.unread;
     start = start_is;
-    family = s.family ∙ sym (ap (λ z. z.1.opening.family) seats.cursor);
+    family = s.family ∙ sym seats.begins.family ∙ sym (ap (λ z. z.1.opening.family) seats.cursor);
     begun = record {
       told = t.told;
-      opening = λ net num. ap (λ z. at_first z.1.opening net num) seats.cursor ∙ t.rows net num;
+      opening = λ net num. ap (λ z. at_first z.1.opening net num) seats.cursor ∙ ap (λ rows. route_in rows net num) seats.begins.rows ∙ t.rows net num;
     };
     mode = seats.mode;
     position = λ up. (s.position up ∙ sym start_is, seats.position up ∙ sym start_is);
@@ -166,10 +177,10 @@ module _ {J : Type 0} (verdict : J → Net → Route → Verdict) (phase : Phase
     unmarked = seats.unmarked;
   }
 
-  pub are_together : (port : TableId × Seat TableOpening) (turns stamp : TableId × Seat ℕ) → journal port ≡ (id, table_terms phase.setup source.table table) → journal stamp ≡ journal marks
+  pub are_together : (port : TableId × Seat TableOpening) (turns stamp : TableId × Seat ℕ) → journal port ≡ here → journal stamp ≡ journal marks
       → AreTogether (import_terms phase number port turns (Some stamp)) (export_terms exports cursor table.before marks (reverse exporter.log))
-  are_together port turns stamp here same = record {
-    table = seats.cursor ∙ sym here;
+  are_together port turns stamp at same = record {
+    table = seats.cursor ∙ sym at;
     marks = ap Some same;
     start = ap (λ z. z.start) seats.marks;
     up = s.up;
@@ -177,11 +188,13 @@ module _ {J : Type 0} (verdict : J → Net → Route → Verdict) (phase : Phase
 
 -- ---- the seats that a protocol is given
 
-module _ (phase : PhaseTerms) (source : Source) (stood : TableTerms) (here : TableId × Terms TableOpening) (begins : here.1 ≡ table_terms phase.setup source.table stood) where
-  pub source_seats : (number hands : ℕ) (port : TableId × Seat TableOpening) (turns : TableId × Seat ℕ) (stamp : Option (TableId × Seat ℕ)) → journal port ≡ here → number_of port.1.role ≡ number → own port.1 ≡ [] → turns.1.seen.terms ≡ turns_terms hands → hands ≡ phase.starter + 1 → front turns.1 ≡ []
-      → IfSome stamp IsUnused → AreSeats phase number source stood here.0 port turns stamp
-  source_seats number hands port turns stamp at is unmade terms many unturned unused = record {
-    port = at ∙ ap (λ z. (here.0, z)) begins;
+module _ (phase : PhaseTerms) (number : ℕ) (stood : TableTerms) (here : TableId × Terms TableOpening) (begins : BeginsTable stood here.1) (own_port : IsOwnPort number here.1.opening) where
+  pub source_seats : (hands : ℕ) (port : TableId × Seat TableOpening) (turns : TableId × Seat ℕ) (stamp : Option (TableId × Seat ℕ)) → journal port ≡ here → number_of port.1.role ≡ number → own port.1 ≡ [] → turns.1.seen.terms ≡ turns_terms hands → hands ≡ phase.starter + 1 → front turns.1 ≡ []
+      → IfSome stamp IsUnused → AreSeats phase number stood here port turns stamp
+  source_seats hands port turns stamp at is unmade terms many unturned unused = record {
+    begins = begins;
+    own_port = own_port;
+    port = at;
     port_number = is;
     unmade = unmade;
     turns = terms ∙ ap turns_terms many;

@@ -19,7 +19,7 @@ use Rattle.jour_rule.specs.declared.views.View.{View as Seat}
 use Rattle.table_shared.specs.Opening.{TableOpening}
 use Rattle.phase_room.specs.Journals.{turns_terms}
 use Rattle.phase_room.specs.Locks.{export_terms}
-use Rattle.phase_room.specs.Rooms.{TableTerms, table_terms}
+use Rattle.phase_room.specs.Rooms.{BeginsTable, IsOwnPort, TableTerms}
 use Rattle.phase_room.specs.Sessions.{protocol_terms}
 use Rattle.phase_room.specs.Stands.{StandsSource}
 use Rattle.phase_room.specs.declared.parts.ChannelPart.{ChannelPart}
@@ -34,7 +34,8 @@ pub record StandsIn
   pub here : TableId × Terms TableOpening
   pub here_is : slice_get tables home ≡ Some here
   pub stood : TableTerms
-  pub begins : here.1 ≡ table_terms phase.setup source.table stood
+  pub begins : BeginsTable stood here.1
+  pub own_port : IsOwnPort number here.1.opening
   pub stands : StandsSource verdict phase number source stood importer
 
 -- It is over its table, its port has its number, and its turns have a hand for each actor and one

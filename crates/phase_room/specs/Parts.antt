@@ -16,18 +16,19 @@ use Rattle.jour.specs.Seats.{front, journal, number_of, own}
 use Rattle.core_setup.specs.Setup.{Exports, Source}
 use Rattle.table_shared.specs.Opening.{TableOpening}
 use Rattle.import_lock.specs.Terms.{PhaseTerms}
-use Rattle.phase_room.specs.Rooms.{TableTerms, table_terms}
+use Rattle.phase_room.specs.Rooms.{BeginsTable, IsOwnPort, TableTerms}
 use Rattle.phase_room.specs.Stands.{StandsChannel, StandsSource, StandsTable}
 use Rattle.phase_room.specs.declared.parts.ChannelPart.{ChannelPart}
 use Rattle.phase_room.specs.declared.parts.ProtocolPart.{ProtocolPart}
 
 module _ {J : Type 0} (verdict : J → Net → Route → Verdict) (phase : PhaseTerms)
     (stood : TableTerms) (here : TableId × Terms TableOpening) where
-  -- The protocol's port is of its table, and nothing is made under it.
+  -- The protocol's port is of its table, has this protocol alone, and nothing is made under it.
   pub record IsProtocolPart (part : ProtocolPart J) : Type 0 where
     pub source : Source
     pub table_is : part.table ≡ source.table
-    pub begins : here.1 ≡ table_terms phase.setup source.table stood
+    pub begins : BeginsTable stood here.1
+    pub own_port : IsOwnPort part.number here.1.opening
     pub stands : StandsSource verdict phase part.number source stood part.importer
     pub port : journal part.port ≡ here
     pub port_number : number_of part.port.1.role ≡ part.number

@@ -1,13 +1,14 @@
--- What stands in a table as a phase with threads begins (`TableTerms`), and what follows for its
--- journal (`table_terms`): it has a port for each protocol, of its number, which has the protocol as
--- its source where it imports to that table, and else none; and a cursor for each channel, of its
--- number.
+-- What stands in a table as a phase with threads begins (`TableTerms`), what its journal begins with
+-- then (`BeginsTable`), and that the port of a protocol which imports there is this protocol's alone
+-- (`IsOwnPort`). Where there are no pipes that is so of `table_terms`: the table has a port for each
+-- protocol, of its number, which has the protocol as its source where it imports to that table, and
+-- else none; and a cursor for each channel, of its number.
 -- Entries before the phase are in their order.
 -- Not modelled: where journals keep their words, and how rows are kept.
 -- From: own.
 -- Example: of two protocols of which the second imports to the second table, the first table has
 -- the ports [0] and [], and the second one [] and [1].
-use Rattle.std.specs.Prelude.{◌≡◌, ◌==◌, ◌+◌, ℕ, List, [], ◌∷◌, length, map, if◌then◌else◌}
+use Rattle.std.specs.Prelude.{◌≡◌, ◌==◌, ◌+◌, ℕ, List, [], ◌∷◌, length, map, Contains, if◌then◌else◌}
 use Rattle.attrs.specs.declared.journal.JEntry.{JEntry}
 use Rattle.attrs.specs.declared.route.Row.{Row}
 use Rattle.bits_ip.specs.declared.address.Family.{Family}
@@ -15,13 +16,26 @@ use Rattle.jour_rule.specs.declared.views.Terms.{Terms}
 use Rattle.core_setup.specs.Channels.{channels}
 use Rattle.core_setup.specs.Protocols.{table_in}
 use Rattle.core_setup.specs.Setup.{Setup}
-use Rattle.table_shared.specs.Opening.{TableOpening}
+use Rattle.phase_legal.specs.Changes.{IsAlone}
+use Rattle.table_shared.specs.Opening.{TableOpening, sources_of}
 
 -- the family of a table, the rows that stand in it as the phase begins, and its entries before
 pub record TableTerms : Type 0 where
   pub family : Family
   pub rows : List Row
   pub before : List JEntry
+
+-- what the journal of a table begins with has what stands in the table
+pub record BeginsTable (stood : TableTerms) (terms : Terms TableOpening) : Type 0 where
+  pub start : terms.start ≡ length stood.before
+  pub family : terms.opening.family ≡ stood.family
+  pub rows : terms.opening.rows ≡ stood.rows
+
+-- The port of this number has the protocol of the number as a source, and no other source; no other
+-- port has that protocol.
+pub record IsOwnPort (number : ℕ) (opening : TableOpening) : Type 0 where
+  pub mine : Contains (sources_of opening number) number
+  pub alone : IsAlone (λ num. num == number) opening number
 
 -- by protocol the table that it imports to; a pipe imports to one that isn't there
 abbrev pub homes : Setup → List ℕ

@@ -18,6 +18,7 @@ use Rattle.export_core.specs.Standing.{is_open}
 use Rattle.export_core.specs.States.{StandsFor, State}
 use Rattle.import_core.specs.Importers.{Importing}
 use Rattle.jour_rule.specs.Moves.{position_of}
+use Rattle.jour_rule.specs.declared.views.Terms.{Terms}
 use Rattle.jour_rule.specs.declared.views.View.{View as Seat}
 use Rattle.jour.specs.Seats.{front, journal, number_of, own}
 use Rattle.core_machine.specs.Lines.{ops_of}
@@ -33,7 +34,7 @@ use Rattle.import_lock.specs.Begun.{IsUnused}
 use Rattle.import_lock.specs.Kept.{IsImporter}
 use Rattle.import_lock.specs.Terms.{PhaseTerms}
 use Rattle.phase_room.specs.Journals.{marks_terms, turns_terms}
-use Rattle.phase_room.specs.Rooms.{TableTerms, table_terms}
+use Rattle.phase_room.specs.Rooms.{BeginsTable, IsOwnPort, TableTerms}
 
 -- its entries told the best routes, and it has what they leave
 pub record StandsTable (table : TableTerms) : Type 0 where
@@ -75,13 +76,16 @@ module _ {J : Type 0} (verdict : J → Net → Route → Verdict) where
         opens false (without_sends (reverse exporter.log))
         ≡ is_up (rules_of phase.setup) number (ops_of (phase.past number))
 
--- its port of its table, its turns with a hand for each actor and one for starts, and its channel's
--- stamp, if it has a channel; nothing of the phase is made, recorded or marked
+-- its port of its table, which begins with what stands there, its turns with a hand for each actor and
+-- one for starts, and its channel's stamp, if it has a channel; nothing of the phase is made, recorded
+-- or marked
 pub record AreSeats
-    (phase : PhaseTerms) (number : ℕ) (source : Source) (table : TableTerms) (id : TableId)
+    (phase : PhaseTerms) (number : ℕ) (table : TableTerms) (here : TableId × Terms TableOpening)
     (door : TableId × Seat TableOpening) (list : TableId × Seat ℕ)
     (marker : Option (TableId × Seat ℕ)) : Type 0 where
-  pub port : journal door ≡ (id, table_terms phase.setup source.table table)
+  pub begins : BeginsTable table here.1
+  pub own_port : IsOwnPort number here.1.opening
+  pub port : journal door ≡ here
   pub port_number : number_of door.1.role ≡ number
   pub unmade : own door.1 ≡ []
   pub turns : list.1.seen.terms ≡ turns_terms (phase.starter + 1)
@@ -90,9 +94,10 @@ pub record AreSeats
 
 -- its cursor of the table, which stands at the table's beginning where it is started, and its marks
 pub record AreChannelSeats
-    (phase : PhaseTerms) (source : Source) (table : TableTerms) (id : TableId) (up : Bool)
+    (table : TableTerms) (here : TableId × Terms TableOpening) (up : Bool)
     (reader : (TableId × Seat TableOpening) × Bool) (list : TableId × Seat ℕ) : Type 0 where
-  pub cursor : journal reader.0 ≡ (id, table_terms phase.setup source.table table)
+  pub begins : BeginsTable table here.1
+  pub cursor : journal reader.0 ≡ here
   pub unread : front reader.0.1 ≡ []
   pub mode : reader.1 ≡ up
   pub position : up ≡ true → position_of reader.0.1.role ≡ length table.before

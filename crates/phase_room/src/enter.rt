@@ -72,6 +72,7 @@ impl<J: Judge + Drop, P: Phase + Sends> Begun<J, P> {
         let (session, hands) = begin_static(alloc, played, self.hands.len() as u32, part)?;
         self.add(session, hands)
     }
+
     /// The next protocol has a channel to a neighbour, which reads the table that the protocol imports
     /// to. The entries are those of the table before the phase.
     pub fn enter_neighbour(

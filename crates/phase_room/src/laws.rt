@@ -5,6 +5,7 @@ ghost use Rattle.bits_ip.specs.declared.address.Family.{Family};
 ghost use Rattle.export_core.specs.Standing.{is_open};
 ghost use Rattle.export_core.specs.States.{State};
 ghost use Rattle.import_core.specs.Importers.{Importing};
+ghost use Rattle.jour_rule.specs.declared.views.Terms.{Terms};
 ghost use Rattle.jour_rule.specs.declared.views.View.{View as Seat};
 ghost use Rattle.jour.specs.Seats.{journal};
 ghost use Rattle.core_machine.specs.Lines.{Line};
@@ -17,7 +18,7 @@ ghost use Rattle.phase_room.specs.Begun.{IsBegun};
 ghost use Rattle.phase_room.specs.First.{first_phase, new_exporter, new_importer, nothing_in, smallest, two_neighbours};
 ghost use Rattle.phase_room.specs.Locks.{CanExport, CanImport, export_terms, import_terms};
 ghost use Rattle.phase_room.specs.Opened.{AreOfEach, IsPassOf};
-ghost use Rattle.phase_room.specs.Rooms.{TableTerms};
+ghost use Rattle.phase_room.specs.Rooms.{BeginsTable, IsOwnPort, TableTerms, table_terms};
 ghost use Rattle.phase_room.specs.Sessions.{room_seen};
 ghost use Rattle.phase_room.specs.Stands.{AreChannelSeats, AreSeats, StandsChannel, StandsSource, StandsTable};
 ghost use Rattle.phase_room.specs.Together.{AreTogether};
@@ -33,31 +34,42 @@ use import_lock::Phase;
 /// its lock begins with.
 pub fn protocols_can_begin<J: Judge>()
     ensures { (phase : PhaseTerms) (number : ℕ) (source : Source) (table : TableTerms)
-        (importer : Importing J) (id : TableId) (port : TableId × Seat TableOpening)
-        (turns : TableId × Seat ℕ) (stamp : Option (TableId × Seat ℕ))
+        (importer : Importing J) (here : TableId × Terms TableOpening)
+        (port : TableId × Seat TableOpening) (turns : TableId × Seat ℕ)
+        (stamp : Option (TableId × Seat ℕ))
         → StandsSource J.verdict phase number source table importer
-        → AreSeats phase number source table id port turns stamp
+        → AreSeats phase number table here port turns stamp
         → CanImport J.verdict phase number importer port turns stamp }
 {}
 
 /// The same of its channel to a neighbour. Both locks then tell of one table and one list of marks.
 pub fn channels_can_begin<J: Judge>()
-    ensures begins { (phase : PhaseTerms) (number : ℕ) (source : Source) (table : TableTerms)
-        (exports : Exports) (exporter : State J) (id : TableId)
+    ensures begins { (phase : PhaseTerms) (number : ℕ) (table : TableTerms) (exports : Exports)
+        (exporter : State J) (here : TableId × Terms TableOpening)
         (cursor : (TableId × Seat TableOpening) × Bool) (marks : TableId × Seat ℕ)
         → StandsTable table → StandsChannel J.verdict phase number exports table exporter
-        → AreChannelSeats phase source table id (is_open exporter.log) cursor marks
+        → AreChannelSeats table here (is_open exporter.log) cursor marks
         → CanExport J.verdict exports table.before (reverse exporter.log) exporter cursor marks }
-    ensures together { (phase : PhaseTerms) (number : ℕ) (source : Source) (table : TableTerms)
-        (exports : Exports) (exporter : State J) (id : TableId)
+    ensures together { (phase : PhaseTerms) (number : ℕ) (table : TableTerms) (exports : Exports)
+        (exporter : State J) (here : TableId × Terms TableOpening)
         (cursor : (TableId × Seat TableOpening) × Bool) (marks : TableId × Seat ℕ)
         (port : TableId × Seat TableOpening) (turns stamp : TableId × Seat ℕ)
         → StandsTable table → StandsChannel J.verdict phase number exports table exporter
-        → AreChannelSeats phase source table id (is_open exporter.log) cursor marks
-        → AreSeats phase number source table id port turns (Some stamp)
+        → AreChannelSeats table here (is_open exporter.log) cursor marks
+        → AreSeats phase number table here port turns (Some stamp)
         → journal stamp ≡ journal marks
         → AreTogether (import_terms phase number port turns (Some stamp))
         (export_terms exports cursor table.before marks (reverse exporter.log)) }
+{}
+
+/// The journal of a table that has no pipes begins with what stands there, and each protocol that
+/// imports to the table has its port alone.
+pub fn tables_begin_with_what_stands<J: Judge>()
+    ensures begins { (setup : Setup) (number : ℕ) (table : TableTerms)
+        → BeginsTable table (table_terms setup number table) }
+    ensures own_port { (phase : PhaseTerms) (number : ℕ) (source : Source) (table : TableTerms)
+        (importer : Importing J) → StandsSource J.verdict phase number source table importer
+        → IsOwnPort number (table_terms phase.setup source.table table).opening }
 {}
 
 /// In the first phase of each setup all stands that a phase begins with: tables are empty, and

@@ -26,7 +26,7 @@ mod turns;
 
 pub use begin::{begin_neighbour, begin_static};
 pub use begun::Begun;
-pub use deals::{no_lists, push_each};
+pub use deals::{no_lists, push_each, split_pass};
 pub use lists::{open_marks, open_turns};
 pub use locks::{ExportLock, ImportLock, lock_export, lock_import};
 pub use opened::Opened;
