@@ -19,7 +19,7 @@ use Rattle.export_lock.specs.Terms.{ExportTerms}
 use Rattle.export_lock.specs.declared.state.ExportState.{ExportState}
 use Rattle.export_lock.proofs.Marking.{still_on}
 use Rattle.phase_room.specs.Sessions.{IsChannelOf}
-use Rattle.phase_workers.specs.Turns.{HasRested}
+use Rattle.channel_turns.specs.Turns.{HasRested}
 use Rattle.phase_close.specs.Left.{AreChannelsLeft, IsSessionLeft}
 use Rattle.phase_close.specs.declared.session.SessionLeft.{SessionLeft}
 use Rattle.phase_sync.specs.Inside.{HasRead, IsReader}

@@ -5,15 +5,15 @@ ghost use Rattle.jour.specs.Seats.{front, head_of, journal, known};
 ghost use Rattle.phase_legal.specs.Shown.{AreBeside};
 ghost use Rattle.export_lock.specs.Feeds.{is_feeding};
 ghost use Rattle.export_lock.specs.Kept.{GoesOn, IsOfKind};
-ghost use Rattle.phase_workers.specs.Turns.{HasRested};
+ghost use Rattle.channel_turns.specs.Turns.{HasRested};
 ghost use Rattle.phase_close.specs.Closed.{all_lists};
 ghost use Rattle.phase_sync.specs.Inside.{CanRead, HasRead, IsFed, IsReader, Reads, ReadsChannel};
 
 use attrs::Judge;
 use bits_ip::OutOfMemory;
+use channel_turns::{Did, read_or_push};
 use export_lock::ExportState;
 use phase_close::SessionLeft;
-use phase_workers::{Did, read_or_push};
 use std::alloc::Global;
 use std::sync::Wait;
 use table_shared::Closing;

@@ -11,9 +11,9 @@ ghost use Rattle.phase_sync.specs.Inside.{IsReader, Settles, SettlesChannel};
 
 use attrs::Judge;
 use bits_ip::OutOfMemory;
+use channel_turns::settle;
 use export_lock::ExportState;
 use phase_close::SessionLeft;
-use phase_workers::settle;
 use std::alloc::Global;
 use std::sync::Wait;
 use table_shared::Table;

@@ -1,3 +1,1 @@
-pub mod Going
-mod Resting
 mod Reading

@@ -1,7 +1,7 @@
 //! Which channel has a cursor of a number.
-use crate::helping::pass_all;
 use attrs::Judge;
 use bits_ip::OutOfMemory;
+use channel_turns::pass_all;
 use export_lock::Sends;
 use import_lock::Phase;
 use phase_room::{ExportLock, Room};

@@ -1,27 +1,21 @@
 -- What turns of a pipe's direction keep, one after another.
-use Rattle.std.proofs.Common.{◌≡◌, ℕ, ◌≤◌, arith, Bool, true, false, List, [], refl, sym, ap, subst, ◌∙◌, append-nil}
-use Rattle.std.specs.Prelude.{IfErr, IfOk}
-use Rattle.std.specs.declared.result.Result.{Result}
-use Rattle.std.specs.declared.result.Result.TheVariants.{Ok, Err}
-use mathlib.Core.List.{IsPrefix}
+use Rattle.std.proofs.Common.{◌≡◌, arith, true, List, [], refl, sym, ◌∙◌, append-nil}
 use Rattle.atomic_table.specs.Seated.{TableId}
 use Rattle.attrs.specs.declared.judge.Verdict.{Verdict}
 use Rattle.attrs.specs.declared.route.Route.{Route}
 use Rattle.attrs.specs.declared.route.Src.{Src}
 use Rattle.bits_ip.specs.Prefix.{Net}
-use Rattle.export_core.specs.declared.log.Key.{Key}
 use Rattle.jour_rule.specs.declared.views.Terms.{Terms}
 use Rattle.jour_rule.specs.declared.views.View.{View as Seat}
-use Rattle.jour.specs.Seats.{front, journal}
+use Rattle.jour.specs.Seats.{front}
 use Rattle.table_shared.specs.Opening.{TableOpening}
 use Rattle.export_lock.specs.Kept.{GoesOn, IsHeld, LeavesFlush}
-use Rattle.export_lock.specs.Lanes.{IsLane, IsSomeLane, LaneTerms}
+use Rattle.export_lock.specs.Lanes.{IsSomeLane, LaneTerms}
 use Rattle.export_lock.specs.LaneTurns.{AreSources, IsHeldLane}
 use Rattle.export_lock.specs.Outlets.{Rests}
 use Rattle.export_lock.specs.declared.lane.PipeLane.{PipeLane}
 use Rattle.export_lock.specs.declared.state.ExportState.{ExportState}
 use Rattle.export_lock.proofs.Entering.{lane_reads}
-use Rattle.export_lock.proofs.Marking.{still_on}
 use Rattle.pipe_lock.specs.Doors.{IsDoor}
 use Rattle.pipe_turns.specs.Turns.{CanTurn, KeepsLane}
 
@@ -96,10 +90,3 @@ module _ {J : Type 0} (verdict : J → Net → Route → Verdict) where
 
   pub some_reads : (key : LaneTerms) (a : PipeLane J) (e : ExportState J) → GoesOn verdict a.state e → LeavesFlush a.state e → e.exporter.log ≡ a.state.exporter.log → IsSomeLane verdict key a → IsSomeLane verdict key (record { state = e; port = a.port })
   some_reads key a e goes flush log some = (some.0, lane_reads verdict some.0 key a (record { state = e; port = a.port }) refl log goes flush some.1)
-
-  -- the cursor of what is down moves past entries
-  pub passed_by : (state : ExportState J) (cursor : (TableId × Seat TableOpening) × Bool) → state.cursor.1 ≡ false → journal cursor.0 ≡ journal state.cursor.0 → cursor.1 ≡ state.cursor.1
-      → IsPrefix (front state.cursor.0.1) (front cursor.0.1) → GoesOn verdict state (record { exporter = state.exporter; cursor = cursor; marks = state.marks })
-  passed_by state cursor closed here mode prefix = λ every key o.
-      still_on verdict key state (record { exporter = state.exporter; cursor = cursor; marks = state.marks }) refl here prefix mode
-      (λ is. absurd (let e : false ≡ true = sym closed ∙ o.mode ∙ is in cc)) refl refl o

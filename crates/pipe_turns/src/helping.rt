@@ -1,61 +1,10 @@
 //! How others have the cursor of a pipe's direction read on.
-ghost use Rattle.std.specs.Prelude.{◌≡◌};
-ghost use mathlib.Core.List.{IsPrefix};
-ghost use Rattle.jour.specs.Seats.{front, journal};
-ghost use Rattle.export_lock.specs.Kept.{GoesOn, IsHeld, LeavesFlush};
-
 use attrs::Judge;
-use export_lock::{ExportState, Sends};
-use jour_rule::buf::Buf;
+use channel_turns::read_on;
+use export_lock::Sends;
 use pipe_lock::LaneLock;
 use std::alloc::Global;
 use std::sync::Wait;
-use table_shared::TableCursor;
-
-/// Moves past the next entry, and tells whether there was one.
-fn pass_one(cursor: &mut TableCursor, buf: &mut Buf) -> bool
-    ensures same { (journal cursor.new.0 ≡ journal cursor.old.0)
-        × (cursor.new.1 ≡ cursor.old.1) }
-    ensures prefix { IsPrefix (front cursor.old.0.1) (front cursor.new.0.1) }
-{
-    match cursor.next(buf) {
-        Some(_) => {
-            cursor.advance();
-            true
-        }
-        None => false,
-    }
-}
-
-/// Moves past the entries that there are, of which a journal has 4096 at most.
-fn pass_by(cursor: &mut TableCursor)
-    ensures same { (journal cursor.new.0 ≡ journal cursor.old.0)
-        × (cursor.new.1 ≡ cursor.old.1) }
-    ensures prefix { IsPrefix (front cursor.old.0.1) (front cursor.new.0.1) }
-{
-    let mut buf = Buf::new();
-    for _ in 0..4096 {
-        if !pass_one(cursor, &mut buf) {
-            return;
-        }
-    }
-}
-
-/// A direction that is up takes the next entry, also while it withdraws what stands. The cursor of
-/// one that is down moves past the entries that there are. Where memory is refused, the entry is
-/// left for the next help.
-fn read_on<J: Judge>(alloc: Global, state: &mut ExportState<J>)
-    requires held { IsHeld J.verdict state.old }
-    ensures goes { GoesOn J.verdict state.old state.new }
-    ensures flush { LeavesFlush state.old state.new }
-    ensures log { state.new.exporter.log ≡ state.old.exporter.log }
-{
-    if state.cursor.is_started() {
-        let _ = state.take_turn(alloc);
-    } else {
-        pass_by(&mut state.cursor);
-    }
-}
 
 /// Has the cursor of a pipe's direction read on, under the direction's lock, and waits for no other
 /// lock: so it may be called wherever no lock of a direction or channel is held.

@@ -1,5 +1,0 @@
-use Rattle.export_lock.specs.Kept.{GoesOn}
-use Rattle.phase_workers.proofs.serving.turn_often.Given as goal
-
-abbrev pub invariant-loop-turn : goal.invariant-loop-turn
-invariant-loop-turn g l = GoesOn g.J.Judge.verdict l.fn.state l.state
