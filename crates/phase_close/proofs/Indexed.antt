@@ -11,6 +11,7 @@ use Rattle.core_setup.proofs.PairLemmas.{get_one, get_within}
 use Rattle.jour_rule.specs.declared.views.View.{View as Seat}
 use Rattle.jour.specs.Seats.{front, journal}
 use Rattle.table_shared.specs.Opening.{TableOpening}
+use Rattle.table_shared.specs.Phases.{IsRetired as IsPortRetired}
 use Rattle.phase_room.specs.Sessions.{IsChannelOf}
 use Rattle.phase_close.specs.Closed.{AreHeard, EndsOver, IsSessionEnded, SessionTerms, TableList, all_lists, list_of}
 use Rattle.phase_close.specs.Left.{IsSessionLeft}
@@ -36,7 +37,7 @@ list_within xs k l at = let inside = get_within (all_lists xs) k l at in let man
 
 module _ {J : Type 0} (verdict : J → Net → Route → Verdict) (xs : List Closed) (x : Closed) (left : SessionLeft J) (ended : SessionEnded J) (at : slice_get xs left.table ≡ Some x) (table : ended.table ≡ left.table)
     (done : (key : SessionTerms) → IsSessionLeft verdict key.protocol key.channel key.hands left → IsChannelOf key.protocol key.channel → key.protocol.port ≡ journal x → IsSessionEnded verdict key (front x.1) ended)
-    (heard : AreHeard x.1.seen.terms (front x.1) left.channel ended.exporter) where
+    (heard : AreHeard x.1.seen.terms (front x.1) left.channel ended.exporter) (retired : IsPortRetired x.1.seen.terms (front x.1) left.port) where
   pub ends_at : EndsOver verdict (all_lists xs) left ended
   ends_at = (
     table,
@@ -48,4 +49,5 @@ module _ {J : Type 0} (verdict : J → Net → Route → Verdict) (xs : List Clo
           session = subst (λ z. IsSessionEnded verdict key z ended) (sym (ap (λ (z : TableList). z.1) same)) (done key e.left_is e.channel_is (ap (λ (z : TableList). z.0) same));
         },
     λ l there. subst (λ (z : TableList). AreHeard z.0.1 z.1 left.channel ended.exporter) (get_one (all_lists xs) left.table (list_of x) l (get_map list_of xs left.table x at) there) heard,
+    λ l there. subst (λ (z : TableList). IsPortRetired z.0.1 z.1 left.port) (get_one (all_lists xs) left.table (list_of x) l (get_map list_of xs left.table x at) there) retired,
   )

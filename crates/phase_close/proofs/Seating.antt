@@ -31,6 +31,11 @@ module _ {J : Type 0} (verdict : J → Net → Route → Verdict) where
   ended_channels key list made terms entries (Some l) (Some s) (Some e) same left heard =
       record { state = s; exporter_is = heard.0; left = left; heard = subst (λ z. IsHeard z entries s.cursor.0.1) same heard.1 }
 
+  -- its port has ended in the table as it was
+  pub port_ended : (session : SessionLeft J) (closing mid : TableId × Seat TableOpening) → (journal mid ≡ journal closing) × (front mid.1 ≡ front closing.1) → IsPortRetired mid.1.seen.terms (front mid.1) session.port → IsPortRetired closing.1.seen.terms (front closing.1) session.port
+  port_ended session closing mid same retired =
+      subst (λ (z : Terms TableOpening × List Entry). IsPortRetired z.0 z.1 session.port) (λ j. (ap (λ (z : TableId × Terms TableOpening). z.1) same.0 j, same.1 j)) retired
+
   pub session_ended : (key : SessionTerms) (session : SessionLeft J) (closing mid : TableId × Seat TableOpening) (exporter : Option (State J)) → IsSessionLeft verdict key.protocol key.channel key.hands session → key.protocol.port ≡ journal closing → (journal mid ≡ journal closing) × (front mid.1 ≡ front closing.1)
       → AreHeard closing.1.seen.terms (front closing.1) session.channel exporter → IsPortRetired mid.1.seen.terms (front mid.1) session.port
       → IsSessionEnded verdict key (front closing.1) (record { table = session.table; importer = session.importer; ops = session.ops; exporter = exporter })

@@ -108,10 +108,12 @@ module _ {J : Type 0} (verdict : J → Net → Route → Verdict) where
     pub there : slice_get lists ended.table ≡ Some (key.protocol.port, entries)
     pub session : IsSessionEnded key entries ended
 
-  -- what was left has ended, with its channel's exporter as it was
+  -- what was left has ended, with its channel's exporter and its port as they were
   abbrev pub EndsOver : List TableList → SessionLeft J → SessionEnded J → Type 0
   EndsOver lists left ended =
       (ended.table ≡ left.table)
       × ((key : SessionTerms) → IsEnding lists key left → IsEndedOver lists key ended)
       × ((l : TableList) → slice_get lists left.table ≡ Some l
       → AreHeard l.0.1 l.1 left.channel ended.exporter)
+      × ((l : TableList) → slice_get lists left.table ≡ Some l
+      → IsPortRetired l.0.1 l.1 left.port)

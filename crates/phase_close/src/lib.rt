@@ -21,7 +21,7 @@ mod turns;
 pub use marks::retire_stamp;
 pub use protocol::{ProtocolLeft, close_protocol};
 pub use room::{RoomEnded, RoomLeft, close_room, end_room};
-pub use seats::{SessionEnded, end_sessions};
+pub use seats::{SessionEnded, end_session_at, end_sessions};
 pub use session::{SessionLeft, close_session};
 pub use sessions::close_sessions;
 pub use tables::{close_tables, end_tables, hear_actor, hear_actors};

@@ -2,7 +2,7 @@
 ghost use Rattle.std.specs.Prelude.{◌≡◌, IfOk, IfSome};
 ghost use Rattle.std.specs.List.{AllByRecursion};
 ghost use Rattle.jour.specs.Seats.{front, journal};
-ghost use Rattle.table_shared.specs.Phases.{IsHeard};
+ghost use Rattle.table_shared.specs.Phases.{IsHeard, IsRetired as IsPortRetired};
 ghost use Rattle.phase_legal.specs.Shown.{AreBeside};
 ghost use Rattle.phase_room.specs.Sessions.{IsChannelOf};
 ghost use Rattle.phase_close.specs.Closed.{AreHeard, EndsOver, IsEnding, IsSessionEnded, SessionTerms, all_lists};
@@ -76,6 +76,7 @@ pub(crate) fn end_seats<J: Judge + Drop>(
     ensures table { result.table ≡ session.table }
     ensures heard { AreHeard closing.old.1.seen.terms (front closing.old.1) session.channel
         result.exporter }
+    ensures retired { IsPortRetired closing.old.1.seen.terms (front closing.old.1) session.port }
     ensures ended { (key : SessionTerms)
         → IsSessionLeft J.verdict key.protocol key.channel key.hands session
         → IsChannelOf key.protocol key.channel → key.protocol.port ≡ journal closing.old
@@ -98,8 +99,9 @@ pub(crate) fn end_seats<J: Judge + Drop>(
     }
 }
 
-/// The same, where the table is among these, at its number.
-fn end_session_at<J: Judge + Drop>(
+/// Ends the port of a session, and its channel's cursor, in their table, which is among these at its
+/// number.
+pub fn end_session_at<J: Judge + Drop>(
     closings: &mut Vec<Closing>,
     session: SessionLeft<J>,
 ) -> SessionEnded<J>

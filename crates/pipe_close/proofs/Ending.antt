@@ -65,8 +65,12 @@ module _ {J : Type 0} (verdict : J → Net → Route → Verdict) (left : PipeLe
   abbrev pub EndsLane : List TableList → (reads writes : ℕ) → PipeLane J → State J → Type 0
   EndsLane lists reads writes lane exporter = (pipe : PipeTerms) (direction : DirectionTerms) (key : LaneTerms) (ops : List Op) → IsLaneLeft verdict pipe direction key ops lane → IsLaneEnded verdict lists reads writes pipe direction key ops exporter
 
-  module _ (lists mid : List TableList) (same : mid ≡ lists) (out back : State J) (out_heard : IsHeardLane lists left.primary left.out out) (out_ends : EndsLane lists left.primary left.peer left.out out) (back_heard : IsHeardLane mid left.peer left.back back)
-      (back_ends : EndsLane mid left.peer left.primary left.back back) where
+  -- its port has ended in the table of this number
+  abbrev pub RetiresPort : List TableList → (writes : ℕ) → PipeLane J → Type 0
+  RetiresPort lists writes lane = IsPortRetired lane.port.1.seen.terms (entries_at lists writes) lane.port
+
+  module _ (lists mid : List TableList) (same : mid ≡ lists) (out back : State J) (out_heard : IsHeardLane lists left.primary left.out out) (out_ends : EndsLane lists left.primary left.peer left.out out) (out_port : RetiresPort lists left.peer left.out) (back_heard : IsHeardLane mid left.peer left.back back)
+      (back_ends : EndsLane mid left.peer left.primary left.back back) (back_port : RetiresPort mid left.primary left.back) where
     abbrev pub ended : PipeEnded J
     ended = record { primary = left.primary; peer = left.peer; up = left.up; ops = left.ops; out = out; back = back }
 
@@ -87,5 +91,7 @@ module _ {J : Type 0} (verdict : J → Net → Route → Verdict) (left : PipeLe
       peer_is = refl;
       out = out_heard;
       back = subst (λ z. IsHeardLane z left.peer left.back back) same back_heard;
+      out_port = out_port;
+      back_port = subst (λ z. RetiresPort z left.primary left.back) same back_port;
       pipe = λ tables are key hands over. pipe_ended tables key hands over;
     }

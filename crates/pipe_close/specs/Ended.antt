@@ -19,7 +19,7 @@ use Rattle.jour_rule.specs.declared.views.Terms.{Terms}
 use Rattle.jour_rule.specs.declared.views.View.{View as Seat}
 use Rattle.core_setup.specs.Protocols.{pipe_is_up}
 use Rattle.table_shared.specs.Opening.{TableOpening}
-use Rattle.table_shared.specs.Phases.{IsHeard}
+use Rattle.table_shared.specs.Phases.{IsHeard, IsRetired as IsPortRetired}
 use Rattle.phase_legal.specs.Shown.{AreBeside, HandView}
 use Rattle.export_lock.specs.Lanes.{LaneTerms}
 use Rattle.export_lock.specs.declared.lane.PipeLane.{PipeLane}
@@ -96,13 +96,17 @@ module _ {J : Type 0} (verdict : J → Net → Route → Verdict) where
     pub hands : List HandView
     pub over : IsPipeOver tables key hands left
 
-  -- what was left has ended, with its directions' exporters as they were
+  -- what was left has ended, with its directions' exporters and ports as they were
   pub record EndsPipe (lists : List TableList) (left : PipeLeft J) (ended : PipeEnded J)
       : Type 0 where
     pub primary_is : ended.primary ≡ left.primary
     pub peer_is : ended.peer ≡ left.peer
     pub out : IsHeardLane lists left.primary left.out ended.out
     pub back : IsHeardLane lists left.peer left.back ended.back
+    pub out_port :
+        IsPortRetired left.out.port.1.seen.terms (entries_at lists left.peer) left.out.port
+    pub back_port :
+        IsPortRetired left.back.port.1.seen.terms (entries_at lists left.primary) left.back.port
     pub pipe :
         (tables : List (TableId × Terms TableOpening)) → AreListsOf tables lists
         → (key : PipeLocks) (hands : List HandView) → IsPipeOver tables key hands left

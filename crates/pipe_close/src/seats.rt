@@ -47,6 +47,8 @@ pub fn end_lane<J: Judge + Drop>(
     requires written { IsTableAt (all_lists closings.old.items) writes (journal lane.port) }
     ensures same { all_lists closings.new.items ≡ all_lists closings.old.items }
     ensures heard { IsHeardLane (all_lists closings.old.items) reads lane result }
+    ensures retired { IsPortRetired lane.port.1.seen.terms
+        (entries_at (all_lists closings.old.items) writes) lane.port }
     ensures ended { (pipe : PipeTerms) (direction : DirectionTerms) (key : LaneTerms)
         (ops : List Op) → IsLaneLeft J.verdict pipe direction key ops lane
         → IsLaneEnded J.verdict (all_lists closings.old.items) reads writes pipe direction key

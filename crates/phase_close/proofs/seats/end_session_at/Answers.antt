@@ -18,4 +18,4 @@ returns-clause-ended g c =
     let k = c.args.session.table in
     let e = c.requires.1 in
     let at = slice_get_read xs (length xs) k c.index_mut.result.now refl (list_within xs k (c.requires.0.protocol.port, e.entries) e.there) c.index_mut.ensures.value in
-    ends_at g.J.Judge.verdict xs c.index_mut.result.now c.args.session c.end_seats.result at c.end_seats.ensures.table c.end_seats.ensures.ended c.end_seats.ensures.heard
+    ends_at g.J.Judge.verdict xs c.index_mut.result.now c.args.session c.end_seats.result at c.end_seats.ensures.table c.end_seats.ensures.ended c.end_seats.ensures.heard c.end_seats.ensures.retired

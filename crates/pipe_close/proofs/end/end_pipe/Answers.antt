@@ -34,4 +34,4 @@ pub returns-clause-ended : goal.returns-clause-ended
 returns-clause-ended g c =
     let out = c.end_lane-out in
     let back = c.end_lane-back in
-    ends_pipe g.J.Judge.verdict c.args.left (all_lists c.args.closings.now.items) (all_lists out.new.closings.items) out.ensures.same out.result back.result out.ensures.heard out.ensures.ended back.ensures.heard back.ensures.ended
+    ends_pipe g.J.Judge.verdict c.args.left (all_lists c.args.closings.now.items) (all_lists out.new.closings.items) out.ensures.same out.result back.result out.ensures.heard out.ensures.ended out.ensures.retired back.ensures.heard back.ensures.ended back.ensures.retired
