@@ -1,0 +1,3 @@
+pub mod Members
+pub mod Ports
+pub mod Begun
