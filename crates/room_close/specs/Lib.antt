@@ -1,0 +1,4 @@
+pub mod Left
+pub mod Ended
+pub mod Inside
+pub mod Synced
