@@ -1,0 +1,66 @@
+//! How those who write a table have its cursors read on.
+use crate::channels::{Channels, Reader};
+use attrs::Judge;
+use channel_turns::help_channel;
+use export_lock::Sends;
+use import_lock::{Helper, Phase};
+use phase_pipes::PipeSession;
+use phase_room::Session;
+use pipe_turns::help_lane;
+use room_members::{Member, Room};
+use std::alloc::Global;
+use std::sync::Wait;
+
+/// Has the channel of a protocol with routes of its own take an entry, where it has one.
+fn help_own<R: Wait, J: Judge + Drop, P: Phase + Sends>(
+    alloc: Global,
+    rt: &R,
+    session: &Session<J, P>,
+) {
+    if let Some(channel) = &session.export {
+        help_channel(alloc, rt, channel);
+    }
+}
+
+/// Has the direction of a pipe that the reader names take an entry.
+fn help_pipe<R: Wait, J: Judge + Drop, P: Phase + Sends>(
+    alloc: Global,
+    rt: &R,
+    pipe: &PipeSession<J, P>,
+    reader: Reader,
+) {
+    match reader {
+        Reader::Own(_) => {}
+        Reader::Out(_) => help_lane(alloc, rt, &pipe.out),
+        Reader::Back(_) => help_lane(alloc, rt, &pipe.back),
+    }
+}
+
+/// Helps a room's actors, and its pipes' directions, where a table's journal is full. Who reads is
+/// found by the number of the cursor.
+#[derive(Drop)]
+pub struct Help<'a, J: Judge + Drop, P: Phase + Sends> {
+    pub alloc: Global,
+    pub room: &'a Room<J, P>,
+    pub channels: &'a Channels,
+}
+
+impl<J: Judge + Drop, P: Phase + Sends> Helper for Help<'_, J, P> {
+    /// Has the channel or the direction of this cursor's number take an entry, under its lock, and
+    /// moves past all entries with cursors of the number that nobody reads by. It waits for no
+    /// protocol's lock.
+    fn help<R: Wait>(&self, rt: &R, cursor: u32) {
+        let number = cursor as usize;
+        self.channels.pass_spares(rt, number);
+        let Some(reader) = self.channels.reader(number) else {
+            return;
+        };
+        let Some(member) = self.room.members.get(reader.member()) else {
+            return;
+        };
+        match member {
+            Member::Own(session) => help_own(self.alloc, rt, session),
+            Member::Pipe(pipe) => help_pipe(self.alloc, rt, pipe, reader),
+        }
+    }
+}

@@ -1,0 +1,166 @@
+//! Workers that serve channels and directions while the actors act.
+ghost use Rattle.std.specs.Prelude.{◌≡◌, ℕ, Some, slice_get};
+ghost use Rattle.room_members.specs.Members.{IsRoom};
+ghost use Rattle.room_members.specs.declared.member.Member.TheVariants.{Own, Pipe};
+
+use crate::channels::{Channels, Reader};
+use crate::helping::Help;
+use crate::lanes::{serve_back, serve_out};
+use attrs::Judge;
+use channel_turns::serve_channel;
+use export_lock::Sends;
+use import_lock::{Helper, OpFault, Phase};
+use outside_io::Gate;
+use phase_pipes::PipeSession;
+use phase_room::Session;
+use room_members::{Member, Room};
+use std::alloc::Global;
+use std::sync::Wait;
+use std::sync::atomic::{AtomicBool, Ordering};
+use std::thread::Parker;
+use std::time::Duration;
+
+/// For how many microseconds a worker sleeps that found nothing to do. Its channels may lag so long:
+/// who writes a table that has no room helps itself.
+const IDLE: u64 = 100;
+
+/// Some turns of the channel of a protocol with routes of its own, where it has one. Tells whether
+/// there was anything to do.
+fn serve_own<R: Wait, G: Gate, J: Judge + Drop, P: Phase + Sends>(
+    alloc: Global,
+    rt: &R,
+    gate: &G,
+    room: &Room<J, P>,
+    session: &Session<J, P>,
+) -> Result<bool, OpFault>
+    requires room { IsRoom P.terms P.exports P.rules room.now }
+    requires there { (number : ℕ) × (slice_get room.now.members.items number ≡ Some (Own session.now)) }
+{
+    match &session.export {
+        Some(channel) => {
+            let table = &room.tables[session.table as usize];
+            match serve_channel(alloc, rt, gate, table, channel) {
+                Ok(busy) => Ok(busy),
+                Err(_) => Err(OpFault::Memory),
+            }
+        }
+        None => Ok(false),
+    }
+}
+
+/// The same of the direction of a pipe that the reader names.
+fn serve_pipe<R: Wait, G: Gate, H: Helper, J: Judge + Drop, P: Phase + Sends>(
+    alloc: Global,
+    rt: &R,
+    gate: &G,
+    helper: &H,
+    room: &Room<J, P>,
+    pipe: &PipeSession<J, P>,
+    reader: Reader,
+) -> Result<bool, OpFault>
+    requires room { IsRoom P.terms P.exports P.rules room.now }
+    requires there { (number : ℕ) × (slice_get room.now.members.items number ≡ Some (Pipe pipe.now)) }
+{
+    match reader {
+        Reader::Own(_) => Ok(false),
+        Reader::Out(_) => serve_out(alloc, rt, gate, helper, room, pipe),
+        Reader::Back(_) => serve_back(alloc, rt, gate, helper, room, pipe),
+    }
+}
+
+/// The same of a reader of the room, where it has such a member.
+fn serve_reader<R: Wait, G: Gate, H: Helper, J: Judge + Drop, P: Phase + Sends>(
+    alloc: Global,
+    rt: &R,
+    gate: &G,
+    helper: &H,
+    room: &Room<J, P>,
+    reader: Reader,
+) -> Result<bool, OpFault>
+    requires room { IsRoom P.terms P.exports P.rules room.now }
+{
+    let number = reader.member();
+    if number >= room.members.len() {
+        return Ok(false);
+    }
+    match &room.members[number] {
+        Member::Own(session) => serve_own(alloc, rt, gate, room, session),
+        Member::Pipe(pipe) => serve_pipe(alloc, rt, gate, helper, room, pipe, reader),
+    }
+}
+
+/// Some turns of each channel and direction of a worker. Tells whether there was anything to do.
+fn serve_all<R: Wait, G: Gate, H: Helper, J: Judge + Drop, P: Phase + Sends>(
+    alloc: Global,
+    rt: &R,
+    gate: &G,
+    helper: &H,
+    room: &Room<J, P>,
+    channels: &Channels,
+    worker: usize,
+) -> Result<bool, OpFault>
+    requires room { IsRoom P.terms P.exports P.rules room.now }
+{
+    let mut busy = false;
+    for channel in 0..channels.count() {
+        if channel % 4 == worker {
+            if let Some(reader) = channels.reader(channel) {
+                busy |= serve_reader(alloc, rt, gate, helper, room, reader)?;
+            }
+        }
+    }
+    Ok(busy)
+}
+
+/// The turns of a worker until all actors have ended and its channels have nothing to do.
+fn serve_on<R: Wait, G: Gate, H: Helper, J: Judge + Drop, P: Phase + Sends>(
+    alloc: Global,
+    rt: &R,
+    gate: &G,
+    helper: &H,
+    room: &Room<J, P>,
+    channels: &Channels,
+    worker: usize,
+    ended: &AtomicBool,
+) -> Result<(), OpFault>
+    requires room { IsRoom P.terms P.exports P.rules room.now }
+{
+    let parker = Parker::new();
+    for _ in rt.forever() {
+        let is_last = ended.load(Ordering::SeqCst);
+        if !serve_all(alloc, rt, gate, helper, room, channels, worker)? {
+            if is_last {
+                return Ok(());
+            }
+            parker.park_timeout(rt, Duration::from_micros(IDLE));
+        }
+    }
+    unreachable!()
+}
+
+/// A worker: of four workers, numbered from 0 on, each serves the channels whose numbers leave its
+/// own by 4, a pipe's directions among them. A direction whose table has no room has the cursor read
+/// on that lags there, without its own lock. Once all actors have ended it goes on until its channels
+/// have nothing to do; what a direction of another worker brings later is left.
+///
+/// It ends also for want of memory, or where a direction writes a table that has no position left.
+/// Its channels are then as they were before the turn that failed, and are left to whoever settles
+/// them.
+pub fn serve<R: Wait, G: Gate, J: Judge + Drop, P: Phase + Sends>(
+    alloc: Global,
+    rt: &R,
+    gate: &G,
+    room: &Room<J, P>,
+    channels: &Channels,
+    worker: usize,
+    ended: &AtomicBool,
+) -> Result<(), OpFault>
+    requires room { IsRoom P.terms P.exports P.rules room.now }
+{
+    let helper = Help {
+        alloc,
+        room,
+        channels,
+    };
+    serve_on(alloc, rt, gate, &helper, room, channels, worker, ended)
+}
