@@ -1,0 +1,5 @@
+pub mod Standing
+pub mod Sources
+pub mod Opening
+pub mod Lists
+pub mod Laid
