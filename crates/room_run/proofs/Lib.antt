@@ -1,0 +1,4 @@
+mod Starters
+mod Seats
+mod Rooms
+mod Sharing

@@ -1,0 +1,16 @@
+//! How the room of a phase is played: static protocols start, a thread for each actor does its
+//! lines while workers serve channels and pipes, and once all have returned the phase ends
+//! (`room_close`).
+//!
+//! `starting` has the starts, `acting` the starts and then the threads, `dealing` gathers the seats
+//! of all by protocol and by actor, `playing` has the whole, and `played` what comes of it.
+#![tactic(auto)]
+
+mod acting;
+mod dealing;
+mod played;
+mod playing;
+mod starting;
+
+pub use played::{PlayFault, PlayedRoom};
+pub use playing::play_room;
