@@ -1,0 +1,5 @@
+pub mod Starts
+pub mod First
+pub mod Past
+pub mod Prints
+pub mod After
