@@ -1,5 +1,5 @@
--- What a room has come to once its tables are closed (`IsRoomEnded`): what was left of each member has
--- ended there (`EndsMember`). What comes of a member so (`IsSessionDone`, `IsPipeDone`).
+-- What a room has come to once its tables are closed (`IsRoomEnded`): what was left of each member
+-- has ended there (`EndsMember`). What comes of a member so (`IsSessionDone`, `IsPipeDone`).
 -- From: own.
 -- Example: of a room of two tables, one protocol and a pipe between the tables, the second list has
 -- what the pipe's direction out made.

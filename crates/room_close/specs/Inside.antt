@@ -1,6 +1,6 @@
 -- What is known of a room behind its members' turns to rest, once its tables are closed
 -- (`EndsAtRest`): all that is up has read to heads that are no less than any port has seen.
--- Not modelled: that these are the last heads of the tables, which takes that no one else has a port.
+-- Not modelled: that these are the tables' last heads, which takes that nobody else has a port.
 -- From: own.
 -- Example: a direction of a pipe that is down has read no further, and rests by being down.
 use Rattle.std.specs.Prelude.{ℕ, List, length}

@@ -121,11 +121,11 @@ fn end_left<R: Wait, G: Gate, J: Judge + Drop>(
     }
 }
 
-/// Ends a phase whose threads have returned, with the hands of each member, one of each actor and one
-/// for starts, the passes of each actor, one of each table, and the cursors of tables by which nothing
-/// is read. Channels and directions of pipes that are up read and send all that the phase has made.
-/// It ends at the first fault: one that came in the phase, one that comes in a turn to rest, or want
-/// of memory.
+/// Ends a phase whose threads have returned, with the hands of each member, one of each actor and
+/// one for starts, the passes of each actor, one of each table, and the cursors of tables by which
+/// nothing is read. Channels and directions of pipes that are up read and send all that the phase
+/// has made. It ends at the first fault: one that came in the phase, one that comes in a turn to
+/// rest, or want of memory.
 pub fn end_phase<R: Wait, G: Gate, J: Judge + Drop, P: Phase + Sends>(
     alloc: Global,
     rt: &R,

@@ -1,5 +1,5 @@
--- What stands before the first phase (`IsFirst`): no table has an entry, no channel to a neighbour has
--- a log, and both directions of a pipe came up at 0 and have sent nothing.
+-- What stands before the first phase (`IsFirst`): no table has an entry, no channel to a neighbour
+-- has a log, and both directions of a pipe came up at 0 and have sent nothing.
 -- From: BIRD User's Guide, "Pipe"; own.
 -- Example: behind a phase of one `add` the table has an entry, so that phase isn't to come.
 use Rattle.std.specs.Prelude.{◌≡◌, ℕ, [], ◌∷◌, Some, slice_get}

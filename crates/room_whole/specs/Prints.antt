@@ -1,6 +1,6 @@
 -- What is printed of a phase that threads have played (`Prints`): by table its entries and the rows
--- that they leave, by protocol of either kind its operations and what it has come to, by channel what its log has
--- more and what stands, and by actor what it was told.
+-- that they leave, by protocol of either kind its operations and what it has come to, by channel what
+-- its log has more and what stands, and by actor what it was told.
 -- Printed lists are read backwards; all others are in their order.
 -- Not modelled: names, and in which order a report has all this.
 -- From: own.
