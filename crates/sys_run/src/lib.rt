@@ -16,5 +16,6 @@ mod player;
 mod protocol;
 mod ways;
 
+pub use made::passed_by;
 pub use parts::{BodyParts, ExportParts, PipeParts, ProtocolParts, SourceParts, TableParts};
 pub use player::Core;

@@ -156,8 +156,9 @@ fn home_of<J: Judge>(tables: usize, body: &BodyParts<J>) -> usize
     }
 }
 
-/// The sources that each channel passes as a direction of a pipe.
-pub(crate) fn passed_by<J: Judge>(
+/// By channel the sources that it passes as a direction of a pipe, in their order; none where it
+/// goes to a neighbour. The protocols are over so many tables.
+pub fn passed_by<J: Judge>(
     alloc: Global,
     tables: usize,
     protocols: &[ProtocolParts<J>],
