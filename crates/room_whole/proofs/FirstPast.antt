@@ -24,7 +24,7 @@ use Rattle.room_open.specs.Standing.{Stands}
 use Rattle.room_open.specs.declared.standing.Standing.{Standing}
 use Rattle.room_open.specs.declared.standing.StandingMember.{StandingMember}
 use Rattle.room_open.specs.declared.standing.StandingMember.TheVariants as stood
-use Rattle.room_whole.specs.First.{IsFirst}
+use Rattle.room_first.specs.First.{IsFirst}
 use Rattle.room_whole.specs.Past.{HasPast, IsChannelOf}
 
 -- the log of a channel before all operations: one that is up then came up at 0

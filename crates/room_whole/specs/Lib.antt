@@ -1,5 +1,4 @@
 pub mod Starts
-pub mod First
 pub mod Past
 pub mod Prints
 pub mod After

@@ -10,7 +10,7 @@ ghost use Rattle.room_open.specs.declared.standing.Standing.{Standing as Standin
 ghost use Rattle.room_run.specs.Played.{AreOfFew, AreStartActs, IsPlayed};
 ghost use Rattle.room_run.specs.declared.played.PlayedRoom.{PlayedRoom as PlayedRoomView};
 ghost use Rattle.room_whole.specs.After.{IsMadeOver, StandsAfter};
-ghost use Rattle.room_whole.specs.First.{IsFirst};
+ghost use Rattle.room_first.specs.First.{IsFirst};
 ghost use Rattle.room_whole.specs.Past.{HasPast};
 ghost use Rattle.room_whole.specs.Prints.{Prints};
 ghost use Rattle.room_whole.specs.Starts.{AreOfProtocols};
