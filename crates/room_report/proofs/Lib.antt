@@ -1,0 +1,4 @@
+pub mod Looping
+pub mod Serving
+pub mod Written
+pub mod Following
