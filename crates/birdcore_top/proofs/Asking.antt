@@ -14,8 +14,7 @@ use Rattle.core_setup.specs.Setup.{Protocol, Setup}
 use Rattle.show_route.specs.declared.query.Query.{Query}
 use Rattle.sys_build.specs.Setups.{setup_of}
 use Rattle.sys_run.specs.Scripts.{AsksWhatIs}
-use Rattle.sys_threads.specs.Running.{NamesSome}
-use Rattle.phases_out.specs.Given.{AskWhatIs, NameSome}
+use Rattle.phases_out.specs.Given.{AskWhatIs, LineNamesSome, NameSome}
 
 module _ (named : Named) (actors : List (List ℕ)) (queries : ℕ) where
   asks : (line : Line) → NamesWhatIs named actors queries line → AsksWhatIs queries line
@@ -29,7 +28,7 @@ module _ (named : Named) (actors : List (List ℕ)) (queries : ℕ) where
       All-weaker (All (NamesWhatIs named actors queries)) (All (AsksWhatIs queries)) (All-weaker (NamesWhatIs named actors queries) (AsksWhatIs queries) asks) phases all
 
 module _ (named : Named) (actors : List (List ℕ)) (setup : Setup) (as_many : length named.protocols ≡ length setup.protocols) where
-  names : (line : Line) → NamesWhatIs named actors (length setup.queries) line → NamesSome (length actors) setup line
+  names : (line : Line) → NamesWhatIs named actors (length setup.queries) line → LineNamesSome (length actors) setup line
   names (lines.Take channel count) is = tt
   names (lines.Push channel count) is = tt
   names (lines.Apply actor number protocol op) is = (is.0, subst (λ (n : ℕ). protocol < n) as_many is.1)
@@ -37,8 +36,8 @@ module _ (named : Named) (actors : List (List ℕ)) (setup : Setup) (as_many : l
 
   all_name : (phases : List (List Line)) → All (All (NamesWhatIs named actors (length setup.queries))) phases → NameSome setup (length actors) phases
   all_name phases all =
-      All-weaker (All (NamesWhatIs named actors (length setup.queries))) (All (NamesSome (length actors) setup))
-      (All-weaker (NamesWhatIs named actors (length setup.queries)) (NamesSome (length actors) setup) names) phases all
+      All-weaker (All (NamesWhatIs named actors (length setup.queries))) (All (LineNamesSome (length actors) setup))
+      (All-weaker (NamesWhatIs named actors (length setup.queries)) (LineNamesSome (length actors) setup) names) phases all
 
 -- there are as many protocols as names
 as_many_as : (ps : List NamedProtocol) (qs : List Protocol) → map (λ (p : NamedProtocol). p.name) ps ≡ map (λ (p : Protocol). p.name) qs → length ps ≡ length qs

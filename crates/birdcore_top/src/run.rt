@@ -19,7 +19,7 @@ use bits_ip::OutOfMemory;
 use conf_system::{Code, System};
 use core_setup::laws::plays_are_legal;
 use outside_io::{Gate, Sink};
-use phases_out::{Ending, run_all};
+use phases_out::{Ending, LentParts, run_all};
 use report::Form;
 use std::alloc::Global;
 use std::hash::RandomState;
@@ -27,13 +27,12 @@ use std::random::RandomSource;
 use std::sync::Wait;
 use std::thread::Threads;
 use sys_build::{ReadScript, parts};
-use sys_threads::LentParts;
 
 /// Runs the script over the configuration, and writes the reports in this form.
 ///
 /// They are those of some legal phases, one for each phase of the script: which ones isn't
-/// promised. Each actor has a thread of its own, which passes the gate. Where there are pipes, or more
-/// than threads have room for, one thread does all lines in the order in which they are written, as
+/// promised. Each actor has a thread of its own, which passes the gate. Where there is more than
+/// threads have room for, one thread does all lines in the order in which they are written, as
 /// `play_phases` does. Want of memory is told as there.
 pub(crate) fn run_phases<R: RandomSource + Threads + Wait + Sync, G: Gate + Sync, K: Sink>(
     rt: &R,

@@ -13,10 +13,13 @@ use Rattle.sys_threads.specs.Running.{NamesSome}
 abbrev pub AskWhatIs : ℕ → List (List Line) → Type 0
 AskWhatIs queries phases = All (All (AsksWhatIs queries)) phases
 
--- each line of these phases is of one of so many actors, and names a protocol or a query that is
--- there
+-- the line is of one of so many actors, and names a protocol or a query that is there
+abbrev pub LineNamesSome : ℕ → Setup → Line → Type 0
+LineNamesSome actors setup line = NamesSome actors setup line
+
+-- so is each line of these phases
 abbrev pub NameSome : Setup → ℕ → List (List Line) → Type 0
-NameSome setup actors phases = All (All (NamesSome actors setup)) phases
+NameSome setup actors phases = All (All (LineNamesSome actors setup)) phases
 
 -- what each line of these phases announces is of the family of its protocol's table
 abbrev pub FitTables : Setup → List (List Line) → Type 0

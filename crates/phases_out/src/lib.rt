@@ -19,3 +19,4 @@ mod run;
 pub use ending::Ending;
 pub use play::play_all;
 pub use run::run_all;
+pub use sys_threads::LentParts;

@@ -67,8 +67,7 @@ impl From<Ending> for Stop {
 /// Runs phases over what is lent, and writes the reports with the last line: those of some legal
 /// phases, one for each. Each actor has a thread of its own, which passes the gate.
 ///
-/// Where there are pipes, or more than threads have room for, there is no ending, and nothing is
-/// written.
+/// Where there is more than threads have room for, there is no ending, and nothing is written.
 pub fn run_all<'p, R: Threads + Wait + Sync, G: Gate + Sync, J: Judge + Drop + Sync, K: Sink>(
     rt: &R,
     alloc: Global,

@@ -1,7 +1,4 @@
-mod Placed
 mod Resting
-mod Standing
-mod Firsts
 mod Turns
 mod More
 mod Lines

@@ -1,24 +1,22 @@
 -- What the lines and the starts of a phase that can be played are.
-use Rattle.std.proofs.Common.{◌≡◌, ℕ, suc, ◌+◌, ◌<◌, ◌≤◌, List, [], ◌∷◌, ◌++◌, length, map, reverse, Option, Some, None, refl, sym, ap, subst, ◌∙◌, arith, length-append}
+use Rattle.std.proofs.Common.{◌≡◌, ℕ, suc, ◌<◌, ◌≤◌, List, [], ◌∷◌, ◌++◌, length, map, reverse, Option, Some, None, refl, sym, ap, subst, ◌∙◌, arith}
 use mathlib.Core.List.{reverse-cons}
 use Rattle.std.specs.Prelude.{option_map, slice_get}
 use Rattle.std.specs.List.{All}
 use Rattle.std.proofs.lemmas.List.{length-map, length-reverse}
 use Rattle.std.proofs.lemmas.List.Elements.{All-head, All-map, All-push, All-same, All-tail}
 use Rattle.std.proofs.lemmas.Option.{get_or_from_slice_get, slice_get-map, slice_get_within}
-use Rattle.bits_ip.specs.declared.address.Family.{Family}
 use Rattle.core_machine.specs.Lines as machine
 use Rattle.core_machine.specs.Lines.{Act, Ask, turn_of}
-use Rattle.core_setup.specs.Channels.{channels, channels_from, channels_in, session}
-use Rattle.core_setup.specs.Setup.{Body, Exports, IsPipe, IsSource, Protocol, Setup}
+use Rattle.core_setup.specs.Setup.{Setup}
 use Rattle.script_lines.specs.declared.script.Line.{Line}
 use Rattle.script_lines.specs.declared.script.Line.TheVariants as lines
 use Rattle.sys_run.specs.Scripts.{FitsLine, line_of}
 use Rattle.phase_legal.specs.Turns.{start_turn}
 use Rattle.phase_actors.specs.Script.{NamesWhatIs}
-use Rattle.phase_run.specs.Played.{AreOfFew, AreStartActs, start_act, starts_of}
-use Rattle.phase_whole.specs.Starts.{AreOfProtocols}
-use Rattle.sys_threads.specs.Running.{CanPlay, HasOwn, IsFew, NamesSome}
+use Rattle.room_run.specs.Played.{AreOfFew, AreStartActs, start_act, starts_of}
+use Rattle.room_whole.specs.Starts.{AreOfProtocols}
+use Rattle.sys_threads.specs.Running.{CanPlay, NamesSome}
 
 pub all_at : {X : Type 0} (P : X → Type 0) (xs : List X) (k : ℕ) (x : X) → All P xs → slice_get xs k ≡ Some x → P x
 all_at P xs k x all at = subst P (get_or_from_slice_get xs k x x at) (all k x (slice_get_within xs k x at))
@@ -96,27 +94,3 @@ none_to_start (number ∷ more) none =
     let mapped : length (starts_of (number ∷ more)) ≡ length (reverse (number ∷ more)) = length-map (reverse (number ∷ more)) start_act in
     let back : length (reverse (number ∷ more)) ≡ suc (length more) = length-reverse (number ∷ more) in
     absurd (let bad : 1 ≤ 0 = omega (arith, empty, mapped, back) in omega (arith, bad))
-
--- ---- without pipes there are no more channels than protocols
-
-few_in : (tables : List (List ℕ × Family)) (n : ℕ) (name : List ℕ) (body : Body) → HasOwn body → length (channels_in tables n name body) ≤ 1
-few_in tables n name (IsPipe p) own = absurd own
-few_in tables n name (IsSource p) own = by p.exports
-  where
-    by : (exports : Option Exports) → length (session tables n name p.table exports) ≤ 1
-    by None = omega arith
-    by (Some exports) = omega arith
-
-few_from : (tables : List (List ℕ × Family)) (n : ℕ) (protocols : List Protocol) → All (λ (p : Protocol). HasOwn p.body) protocols → length (channels_from tables n protocols) ≤ length protocols
-few_from tables n [] own = omega arith
-few_from tables n (p ∷ more) own =
-    let here = few_in tables n p.name p.body (All-head (λ (q : Protocol). HasOwn q.body) p more own) in
-    let rest = few_from tables (n + 1) more (All-tail (λ (q : Protocol). HasOwn q.body) p more own) in
-    let all = length-append (channels_in tables n p.name p.body) (channels_from tables (n + 1) more) in
-    omega (arith, here, rest, all)
-
-pub few_channels : (setup : Setup) (actors : ℕ) → IsFew setup actors → length (channels setup) ≤ 512
-few_channels setup actors few =
-    let fewer = few_from setup.tables 0 setup.protocols few.own in
-    let most = few.protocols in
-    omega (arith, fewer, most)

@@ -13,10 +13,11 @@ use Rattle.show_route.specs.declared.query.Query.{Query}
 use Rattle.sys_run.specs.Playing.{joined_all, starts_in}
 use Rattle.sys_run.specs.Scripts.{line_of}
 use Rattle.phase_answers.specs.declared.lent.Lent.{Lent}
-use Rattle.phase_close.specs.declared.seats.SessionEnded.{SessionEnded}
-use Rattle.phase_open.specs.declared.standing.Standing.{Standing}
-use Rattle.phase_whole.specs.Past.{HasPast}
-use Rattle.phase_whole.specs.Prints.{Prints}
+use Rattle.room_close.specs.declared.ended.MemberEnded.{MemberEnded}
+use Rattle.room_close.specs.declared.ended.MemberEnded.TheVariants.{Own, Pipe}
+use Rattle.room_open.specs.declared.standing.Standing.{Standing}
+use Rattle.room_whole.specs.Past.{HasPast}
+use Rattle.room_whole.specs.Prints.{Prints, PrintsMember}
 use Rattle.sys_threads.specs.Playing.{turns_before, turns_in, turns_of}
 use Rattle.sys_threads.specs.declared.playing.Earlier.{Earlier}
 
@@ -101,22 +102,26 @@ module _ {J : Type 0} where
       ap (λ (turns : List Turn). turns ++ turns_in queries first i) (turns_behind queries more phase i)
       ∙ append_assoc (turns_in queries phase i) (turns_before queries more i) (turns_in queries first i)
 
+  member_turns : (setup : Setup) (lines : List Line) (past : Joined) (p : Printed) (i : ℕ) (member : MemberEnded (Lent J)) → PrintsMember setup lines past p i member → turns_of lines (Some member) ≡ p.ops i
+  member_turns setup lines past p i (Own session) prints = sym prints.ops.turns
+  member_turns setup lines past p i (Pipe pipe) prints = sym prints.ops.turns
+
   -- what a phase has made tells all that was printed of operations
   turns_printed : (setup : Setup) (past : Joined) (p : Printed) (phase : Earlier J) (after : Standing (Lent J)) → Prints setup (map (line_of setup.queries) phase.lines.value.items) past p phase.made.value
       → HasPast setup (join past p) after → (i : ℕ) → turns_in setup.queries phase i ≡ p.ops i
-  turns_printed setup past p phase after prints has i = by (slice_get phase.made.value.ended.sessions.items i) refl
+  turns_printed setup past p phase after prints has i = by (slice_get phase.made.value.ended.members.items i) refl
     where
       far : {X : Type 0} (xs : List X) (k : ℕ) → slice_get xs k ≡ None → length xs ≤ k
       far [] k none = omega arith
       far (x ∷ xs) zero none = cc
       far (x ∷ xs) (suc k) none = let more = far xs k none in omega (arith, more)
 
-      by : (o : Option (SessionEnded (Lent J))) → slice_get phase.made.value.ended.sessions.items i ≡ o → turns_of (map (line_of setup.queries) phase.lines.value.items) o ≡ p.ops i
+      by : (o : Option (MemberEnded (Lent J))) → slice_get phase.made.value.ended.members.items i ≡ o → turns_of (map (line_of setup.queries) phase.lines.value.items) o ≡ p.ops i
       by None none =
-          let behind = far phase.made.value.ended.sessions.items i none in
-          let count = prints.protocols_count in
+          let behind = far phase.made.value.ended.members.items i none in
+          let count = prints.members_count in
           sym (no_front (p.ops i) (past.ops i) (has.no_ops i (omega (arith, behind, count))))
-      by (Some session) at = sym (prints.protocols i session at).turns
+      by (Some member) at = member_turns setup (map (line_of setup.queries) phase.lines.value.items) past p i member (prints.members i member at)
 
   pub turns_more : (setup : Setup) (past : Joined) (p : Printed) (phases : List (Earlier J)) (phase : Earlier J) (after : Standing (Lent J))
       → Prints setup (map (line_of setup.queries) phase.lines.value.items) past p phase.made.value → HasPast setup (join past p) after

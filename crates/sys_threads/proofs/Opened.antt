@@ -6,6 +6,7 @@ use Rattle.attrs.specs.declared.judge.Verdict.{Verdict}
 use Rattle.attrs.specs.declared.route.Route.{Route}
 use Rattle.bits_ip.specs.Prefix.{Net}
 use Rattle.bits_ip.specs.declared.address.Family.{Family}
+use Rattle.core_machine.specs.Rules.{Rules}
 use Rattle.core_setup.specs.Setup.{Exports, IsSetup, Setup}
 use Rattle.core_setup.proofs.PairLemmas.{get_here, get_within}
 use Rattle.jour_rule.specs.declared.views.Terms.{Terms}
@@ -15,19 +16,20 @@ use Rattle.sys_run.specs.Scripts.{FitsLine, line_of}
 use Rattle.import_lock.specs.Terms.{PhaseTerms}
 use Rattle.table_shared.specs.Opening.{TableOpening}
 use Rattle.phase_legal.specs.Shown.{AreBeside}
-use Rattle.phase_room.specs.Sessions.{IsRoom}
-use Rattle.phase_room.specs.declared.room.Room.{Room}
-use Rattle.phase_actors.specs.Script.{CanDo, HasAll, IsScript, IsTableOf, NamesWhatIs}
-use Rattle.phase_open.specs.Opening.{IsOpening}
-use Rattle.phase_open.specs.Standing.{Stands}
-use Rattle.phase_open.specs.declared.opening.Opening.{Opening}
-use Rattle.phase_open.specs.declared.standing.Standing.{Standing}
+use Rattle.phase_actors.specs.Script.{IsTableOf, NamesWhatIs}
+use Rattle.room_actors.specs.Script.{CanDo, HasAll, IsScript}
+use Rattle.room_members.specs.Members.{IsRoom}
+use Rattle.room_members.specs.declared.room.Room.{Room}
+use Rattle.room_open.specs.Opening.{IsOpening}
+use Rattle.room_open.specs.Standing.{Stands}
+use Rattle.room_open.specs.declared.opening.Opening.{Opening}
+use Rattle.room_open.specs.declared.standing.Standing.{Standing}
 use Rattle.sys_threads.specs.Running.{CanPlay, IsFew}
 use Rattle.sys_threads.proofs.Lines.{named_at}
 
 -- what stands has seats in a room
 pub few_stand : {J : Type 0} (verdict : J → Net → Route → Verdict) (phase : PhaseTerms) (exports : ℕ → Exports) (standing : Standing J) (actors : ℕ) → Stands verdict phase exports standing → IsFew phase.setup actors
-    → (length standing.protocols.items ≤ 1024) × (length standing.tables.items < 2 ^ 32)
+    → (length standing.members.items ≤ 1024) × (length standing.tables.items < 2 ^ 32)
 few_stand verdict phase exports standing actors stands few =
     let protocols = stands.count in
     let most = few.protocols in
@@ -35,8 +37,8 @@ few_stand verdict phase exports standing actors stands few =
     let all = few.tables in
     ((omega (arith, protocols, most)), (omega (arith, tables, all)))
 
-module _ {J P : Type 0} (verdict : J → Net → Route → Verdict) (terms : P → PhaseTerms) (exports : P → ℕ → Exports) (played : P) (standing : Standing J) (opening : Opening J P)
-    (stands : Stands verdict (terms played) (exports played) standing) (opens : IsOpening terms exports played standing.tables.items standing.protocols.items opening) where
+module _ {J P : Type 0} (verdict : J → Net → Route → Verdict) (terms : P → PhaseTerms) (exports : P → ℕ → Exports) (rules : P → Rules) (played : P) (standing : Standing J) (opening : Opening J P)
+    (stands : Stands verdict (terms played) (exports played) standing) (opens : IsOpening terms exports rules played standing.tables.items standing.members.items opening) where
   abbrev beside : Setup → Type 0
   beside setup = AreBeside IsTableOf setup.tables opening.room.tables.items
 
@@ -53,11 +55,11 @@ module _ {J P : Type 0} (verdict : J → Net → Route → Verdict) (terms : P �
   has_all : HasAll terms opening.room
   has_all = record {
     tables = subst (λ (q : P). beside (terms q).setup) (sym opens.played_is) tables_beside;
-    sessions = opens.sessions_count ∙ stands.count ∙ ap (λ (q : P). length (terms q).setup.protocols) (sym opens.played_is);
+    members = opens.members_count ∙ stands.count ∙ ap (λ (q : P). length (terms q).setup.protocols) (sym opens.played_is);
   }
 
   pub is_script : (queries : List Query) (lines : List Line) (actors : ℕ)
-      → ((room : Room J P) (line : Line) → IsRoom terms exports room → HasAll terms room → IsSetup (terms room.played.value).setup → NamesWhatIs (terms room.played.value).setup line → FitsLine (terms room.played.value).setup line → CanDo terms room line)
+      → ((room : Room J P) (line : Line) → IsRoom terms exports rules room → HasAll terms room → IsSetup (terms room.played.value).setup → NamesWhatIs (terms room.played.value).setup line → FitsLine (terms room.played.value).setup line → CanDo terms room line)
       → (terms played).setup.queries ≡ queries → (terms played).lines ≡ map (line_of queries) lines → CanPlay (terms played).setup actors lines → IsScript terms opening.room queries lines
   is_script queries lines actors law queries_are lines_are can = record {
     queries_are = ap (λ (q : P). (terms q).setup.queries) opens.played_is ∙ queries_are;

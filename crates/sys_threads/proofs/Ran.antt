@@ -1,5 +1,5 @@
 -- A phase that was played and reported is one more of the run, and its runner can go on.
-use Rattle.std.proofs.Common.{◌≡◌, ℕ, suc, ◌+◌, ◌<◌, List, [], ◌∷◌, ◌++◌, length, map, reverse, Option, refl, sym, ap, subst, ◌∙◌}
+use Rattle.std.proofs.Common.{◌≡◌, ℕ, suc, ◌+◌, ◌<◌, List, [], ◌∷◌, ◌++◌, length, map, reverse, refl, sym, ap, subst, ◌∙◌}
 use Rattle.std.specs.declared.alloc.Global.{Global}
 use Rattle.std.specs.declared.vec.Vec.{Vec}
 use Rattle.std.proofs.lemmas.List.Elements.{All-nil, All-same}
@@ -18,21 +18,23 @@ use Rattle.report.specs.declared.phase.PhaseReport.{PhaseReport}
 use Rattle.script_lines.specs.declared.script.Line.{Line}
 use Rattle.sys_run.specs.Playing.{joined_all}
 use Rattle.sys_run.specs.Scripts.{line_of, phase_of}
+use Rattle.sys_run.specs.declared.parts.TableParts.{TableParts}
 use Rattle.phase_answers.specs.declared.lent.Lent.{Lent}
-use Rattle.phase_open.specs.Opening.{IsOpening}
-use Rattle.phase_open.specs.Standing.{Stands}
-use Rattle.phase_open.specs.declared.opening.Opening.{Opening}
-use Rattle.phase_open.specs.declared.standing.Standing.{Standing}
-use Rattle.phase_run.specs.Played.{AreOfFew, AreStartActs, IsPlayed, starts_of}
-use Rattle.phase_run.specs.declared.played.PlayedRoom.{PlayedRoom}
-use Rattle.phase_whole.specs.After.{IsMadeOver, StandsAfter}
-use Rattle.phase_whole.specs.Past.{HasPast}
-use Rattle.phase_whole.specs.Prints.{Prints}
-use Rattle.phase_whole.specs.Starts.{AreOfProtocols}
-use Rattle.phase_report.specs.Behind.{IsPlayedOver}
-use Rattle.phase_report.specs.Described.{IsDescribed}
-use Rattle.sys_threads.specs.Inside.{logged_in, numbers_in}
-use Rattle.sys_threads.specs.Playing.{lent_by, sent_by, sent_in, setup_lent, terms_of, turns_before}
+use Rattle.room_first.specs.Sent.{lent_by, sent_by}
+use Rattle.room_open.specs.Opening.{IsOpening}
+use Rattle.room_open.specs.Standing.{Stands}
+use Rattle.room_open.specs.declared.opening.Opening.{Opening}
+use Rattle.room_open.specs.declared.standing.Standing.{Standing}
+use Rattle.room_report.specs.Behind.{IsPlayedOver, numbers_in}
+use Rattle.room_report.specs.Described.{AreLogged, IsDescribed}
+use Rattle.room_report.specs.declared.numbers.ChannelNumbers.{ChannelNumbers}
+use Rattle.room_run.specs.Played.{AreOfFew, AreStartActs, IsPlayed, starts_of}
+use Rattle.room_run.specs.declared.played.PlayedRoom.{PlayedRoom}
+use Rattle.room_whole.specs.After.{IsMadeOver, StandsAfter}
+use Rattle.room_whole.specs.Past.{HasPast}
+use Rattle.room_whole.specs.Prints.{Prints}
+use Rattle.room_whole.specs.Starts.{AreOfProtocols}
+use Rattle.sys_threads.specs.Playing.{rules_in, sent_in, setup_lent, terms_of, turns_before}
 use Rattle.sys_threads.specs.Running.{CanPlay, HasRun, IsNext}
 use Rattle.sys_threads.specs.declared.parts.LentParts.{LentParts}
 use Rattle.sys_threads.specs.declared.playing.Earlier.{Earlier}
@@ -49,16 +51,17 @@ module _ {J : Type 0} (verdict : J → Net → Route → Verdict) where
       : Type 0 where
     pub next : IsNext verdict old played
     pub lines_are : played.lines.value.items ≡ lines
-    pub opens : IsOpening (terms_of verdict) (sent_in verdict) played old.standing.tables.items old.standing.protocols.items opening
-    pub is : IsPlayed (lent_by verdict) (terms_of verdict) (sent_in verdict) opening.room (starts_of old.statics.items) made
+    pub opens : IsOpening (terms_of verdict) (sent_in verdict) (rules_in verdict) played old.standing.tables.items old.standing.members.items opening
+    pub is : IsPlayed (lent_by verdict) (terms_of verdict) (sent_in verdict) (rules_in verdict) opening.room (starts_of old.statics.items) made
 
   -- the runner behind such a phase
-  pub record IsBehind (old : Runner J) (phase : Earlier J) (after : Standing (Lent J)) (new : Runner J)
+  pub record IsBehind (old : Runner J) (phase : Earlier J) (after : Standing (Lent J)) (lengths : List ℕ) (new : Runner J)
       : Type 0 where
     pub parts : new.parts ≡ old.parts
     pub actors : new.actors ≡ old.actors
     pub channels : new.channels ≡ old.channels
     pub names : new.names.items ≡ old.names.items
+    pub logged : new.logged.items ≡ lengths
     pub earlier : new.earlier.items ≡ old.earlier.items ++ phase ∷ []
     pub standing : new.standing ≡ after
     pub statics : new.statics.items ≡ []
@@ -69,21 +72,22 @@ module _ {J : Type 0} (verdict : J → Net → Route → Verdict) where
         (played next : Playing J) (past : Joined) (standing after : Standing (Lent J)) (opening : Opening (Lent J) (Playing J)) (starts : List Act) (made : PlayedRoom (Lent J))
         → Stands (lent_by verdict) (terms_of verdict played) (sent_in verdict played) standing → HasPast (terms_of verdict played).setup past standing → (terms_of verdict played).past ≡ past.ops
         → AreOfFew (terms_of verdict played).starter (length (terms_of verdict played).setup.protocols) (terms_of verdict played).lines → AreStartActs starts → AreOfProtocols (length (terms_of verdict played).setup.protocols) starts
-        → IsOpening (terms_of verdict) (sent_in verdict) played standing.tables.items standing.protocols.items opening → IsPlayed (lent_by verdict) (terms_of verdict) (sent_in verdict) opening.room starts made
+        → IsOpening (terms_of verdict) (sent_in verdict) (rules_in verdict) played standing.tables.items standing.members.items opening → IsPlayed (lent_by verdict) (terms_of verdict) (sent_in verdict) (rules_in verdict) opening.room starts made
         → StandsAfter standing made after → (terms_of verdict next).setup ≡ (terms_of verdict played).setup → sent_in verdict next ≡ sent_in verdict played
         → (p : Printed) × IsLegal (rules_of (terms_of verdict played).setup) (started starts) past (reverse (terms_of verdict played).lines) p × Prints (terms_of verdict played).setup (terms_of verdict played).lines past p made
         × HasPast (terms_of verdict played).setup (join past p) after
         × ((terms_of verdict next).past ≡ (join past p).ops → Stands (lent_by verdict) (terms_of verdict next) (sent_in verdict next) after)
     pub over :
         (played : Playing J) (standing : Standing (Lent J)) (opening : Opening (Lent J) (Playing J)) (starts : List Act) (made : PlayedRoom (Lent J))
-        → IsOpening (terms_of verdict) (sent_in verdict) played standing.tables.items standing.protocols.items opening → IsPlayed (lent_by verdict) (terms_of verdict) (sent_in verdict) opening.room starts made
+        → IsOpening (terms_of verdict) (sent_in verdict) (rules_in verdict) played standing.tables.items standing.members.items opening → IsPlayed (lent_by verdict) (terms_of verdict) (sent_in verdict) (rules_in verdict) opening.room starts made
         → IsMadeOver standing (terms_of verdict played).starter made
 
   module _ (laws : AreLaws) (old new : Runner J) (lines : List Line) (played : Playing J) (opening : Opening (Lent J) (Playing J)) (made : PlayedRoom (Lent J)) (after : Standing (Lent J)) (phase : Earlier J) (playing : IsPlaying old lines played opening made)
-      (phase_lines : phase.lines.value.items ≡ lines) (phase_made : phase.made.value ≡ made) (is_behind : IsBehind old phase after new) (actors : List (List ℕ))
-      (can : CanPlay (setup_lent verdict played.parts) (length actors) lines) (numbers : List (Option ℕ)) (numbers_are : numbers ≡ numbers_in old.standing.protocols.items) (logged : List ℕ) (logged_are : logged ≡ map logged_in old.standing.protocols.items)
+      (phase_lines : phase.lines.value.items ≡ lines) (phase_made : phase.made.value ≡ made) (lengths : List ℕ) (is_behind : IsBehind old phase after lengths new) (actors : List (List ℕ))
+      (can : CanPlay (setup_lent verdict played.parts) (length actors) lines) (numbers : List ChannelNumbers) (numbers_are : numbers ≡ map numbers_in old.standing.members.items)
       (before : List (Vec JEntry Global)) (before_are : before ≡ opening.before.items)
-      (stands_after : (standing : Standing (Lent J)) → IsPlayedOver standing old.parts.tables.now numbers before made → StandsAfter standing made after) where
+      (stands_after : (standing : Standing (Lent J)) → IsPlayedOver standing old.parts.tables.now numbers before made → StandsAfter standing made after)
+      (lengths_are : (s : Setup) (tables : List TableParts) (names speakers : List (List ℕ)) (logged : List ℕ) (past : Joined) (ls : List machine.Line) (p : Printed) → IsDescribed s tables names speakers logged past made → Prints s ls past p made → AreLogged s (join past p) lengths) where
     abbrev setup : Setup
     setup = setup_lent verdict played.parts
 
@@ -147,11 +151,11 @@ module _ {J : Type 0} (verdict : J → Net → Route → Verdict) where
       stands_after_it = subst (λ (standing : Standing (Lent J)). Stands (lent_by verdict) (terms_of verdict following) (sent_by setup) standing) is_behind.standing
           (stands_next following (record { parts = refl; actors = refl; earlier = refl }))
 
-      told : IsDescribed setup old.parts.tables.now old.names.items actors logged past made
-      told = described (lent_by verdict) (terms_of verdict played) (terms_of verdict following) (sent_in verdict played) (sent_by setup) old.standing after stands stands_after_it old.parts.tables.now old.names.items actors logged past made
-          (ap (λ (parts : LentParts J). (setup_lent verdict parts).tables) (sym playing.next.parts)) run.rests.names_are logged_are run.rests.past over behind
+      told : IsDescribed setup old.parts.tables.now old.names.items actors old.logged.items past made
+      told = described (lent_by verdict) (terms_of verdict played) (terms_of verdict following) (sent_in verdict played) (sent_by setup) old.standing after stands stands_after_it old.parts.tables.now old.names.items actors old.logged.items past made
+          (ap (λ (parts : LentParts J). (setup_lent verdict parts).tables) (sym playing.next.parts)) run.rests.names_are run.rests.logged_are over behind
 
-      run_here : (report : PhaseReport) → ((s : Setup) (past : Joined) (p : Printed) → IsDescribed s old.parts.tables.now old.names.items actors logged past made → Prints s (map (line_of s.queries) lines) past p made → IsReport s actors (length old.earlier.items + 1) past p report)
+      run_here : (report : PhaseReport) → ((s : Setup) (past : Joined) (p : Printed) → IsDescribed s old.parts.tables.now old.names.items actors old.logged.items past made → Prints s (map (line_of s.queries) lines) past p made → IsReport s actors (length old.earlier.items + 1) past p report)
           → HasRun verdict setup actors (scripts ++ phase_of setup.queries lines ∷ []) (reports ++ report ∷ []) new
       run_here report reported =
           let got = printed_for played refl in
@@ -169,6 +173,8 @@ module _ {J : Type 0} (verdict : J → Net → Route → Verdict) where
               actors_are = is_behind.actors ∙ run.rests.actors_are;
               channels_are = is_behind.channels ∙ run.rests.channels_are;
               names_are = is_behind.names ∙ run.rests.names_are;
+              logged_are = subst (λ (x : Joined). AreLogged setup x new.logged.items) (sym joined) (subst (λ (list : List ℕ). AreLogged setup (join past p) list) (sym is_behind.logged)
+                  (lengths_are setup old.parts.tables.now old.names.items actors old.logged.items past (map (line_of setup.queries) played.lines.value.items) p told got.2));
               phases_are = ap length is_behind.earlier ∙ length_more old.earlier.items phase ∙ ap suc run.rests.phases_are ∙ sym (length_more run.printed p);
               starts_are = ap starts_of is_behind.statics ∙ no_starts setup run.printed p;
               statics = All-same (λ (number : ℕ). number < length setup.protocols) new.statics.items [] is_behind.statics (All-nil (λ (number : ℕ). number < length setup.protocols));
@@ -178,7 +184,7 @@ module _ {J : Type 0} (verdict : J → Net → Route → Verdict) where
             };
           }
 
-    pub run_more : (report : PhaseReport) → ((s : Setup) (past : Joined) (p : Printed) → IsDescribed s old.parts.tables.now old.names.items actors logged past made → Prints s (map (line_of s.queries) lines) past p made → IsReport s actors (length old.earlier.items + 1) past p report)
+    pub run_more : (report : PhaseReport) → ((s : Setup) (past : Joined) (p : Printed) → IsDescribed s old.parts.tables.now old.names.items actors old.logged.items past made → Prints s (map (line_of s.queries) lines) past p made → IsReport s actors (length old.earlier.items + 1) past p report)
         → (s : Setup) (scripts : List (List machine.Line)) (reports : List PhaseReport) → HasRun verdict s actors scripts reports old → HasRun verdict s actors (scripts ++ phase_of s.queries lines ∷ []) (reports ++ report ∷ []) new
     run_more report reported s scripts reports run =
         let same : setup ≡ s = ap (setup_lent verdict) playing.next.parts ∙ run.rests.setup_is in

@@ -9,11 +9,12 @@ use Rattle.core_setup.specs.Channels.{channels}
 use Rattle.core_setup.specs.Setup.{Setup}
 use Rattle.script_lines.specs.declared.script.Line.{Line}
 use Rattle.import_lock.specs.declared.state.OpFault.TheVariants as ops
-use Rattle.phase_open.specs.Standing.{Stands}
-use Rattle.phase_run.specs.declared.played.PlayFault.{PlayFault}
-use Rattle.phase_run.specs.declared.played.PlayFault.TheVariants as plays
+use Rattle.room_first.specs.Sent.{lent_by, sent_by}
+use Rattle.room_open.specs.Standing.{Stands}
+use Rattle.room_run.specs.declared.played.PlayFault.{PlayFault}
+use Rattle.room_run.specs.declared.played.PlayFault.TheVariants as plays
 use Rattle.sys_threads.specs.Faults.{fault_of}
-use Rattle.sys_threads.specs.Playing.{lent_by, sent_by, sent_in, setup_lent, terms_of}
+use Rattle.sys_threads.specs.Playing.{sent_in, setup_lent, terms_of}
 use Rattle.sys_threads.specs.Running.{CanPlay, IsFew, IsNext, Rests}
 use Rattle.sys_threads.specs.declared.fault.RunFault.{RunFault}
 use Rattle.sys_threads.specs.declared.fault.RunFault.TheVariants as runs

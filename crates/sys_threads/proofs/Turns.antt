@@ -1,28 +1,24 @@
--- Turns of loops over protocols: how many channels they have, and which of them start.
-use Rattle.std.proofs.Common.{◌≡◌, ℕ, zero, suc, ◌+◌, ◌<◌, ◌≤◌, Bool, true, false, true≢false, ◌&&◌, All, List, [], ◌∷◌, ◌++◌, Option, Some, None, get_or, is_some, refl, sym, ◌∙◌, ap, subst, arith, length, map, take}
-use Rattle.std.specs.Prelude.{if◌then◌else◌, option_map, slice_get}
+-- Turns of loops over protocols: what is made of each, and which of them start.
+use Rattle.std.proofs.Common.{◌≡◌, ℕ, zero, suc, ◌+◌, ◌<◌, Bool, true, false, true≢false, ◌&&◌, All, List, [], ◌∷◌, ◌++◌, Some, get_or, refl, sym, ◌∙◌, ap, arith, length, map, take}
+use Rattle.std.specs.Prelude.{slice_get}
 use Rattle.std.proofs.lemmas.List.Elements.{All-append, All-weaker}
-use Rattle.std.proofs.lemmas.List.{length-append, length-map, map-append, reverse-append}
+use Rattle.std.proofs.lemmas.List.{length-map, map-append, reverse-append}
 use Rattle.std.proofs.lemmas.Option.{slice_get_read}
 use Rattle.attrs.specs.declared.attributes.Kind.{Kind}
 use Rattle.attrs.specs.declared.attributes.Kind.TheVariants.{Bgp, Static}
 use Rattle.attrs.specs.declared.judge.Verdict.{Verdict}
 use Rattle.attrs.specs.declared.route.Route.{Route}
 use Rattle.bits_ip.specs.Prefix.{Net}
-use Rattle.bits_ip.specs.declared.address.Family.{Family}
 use Rattle.core_machine.specs.Lines.{Act}
-use Rattle.core_setup.specs.Channels.{channels_from, channels_in, session}
 use Rattle.core_setup.specs.Protocols.{starts_from, with_begin, with_start}
 use Rattle.core_setup.specs.Setup.{Protocol}
 use Rattle.core_setup.proofs.PairLemmas.{length_front, take_one_more}
-use Rattle.phase_run.specs.Played.{start_act, starts_of}
-use Rattle.sys_run.specs.Parts.{body_seen, exports_seen, protocol_seen}
+use Rattle.room_run.specs.Played.{start_act, starts_of}
+use Rattle.sys_run.specs.Parts.{body_seen, protocol_seen}
 use Rattle.sys_run.specs.declared.parts.BodyParts.{BodyParts}
 use Rattle.sys_run.specs.declared.parts.BodyParts.TheVariants.{Pipe, Source}
-use Rattle.sys_run.specs.declared.parts.ExportParts.{ExportParts}
 use Rattle.sys_run.specs.declared.parts.ProtocolParts.{ProtocolParts}
-use Rattle.sys_threads.specs.Inside.{begins, is_static, own_channels, with_number}
-use Rattle.sys_threads.specs.Running.{HasOwn}
+use Rattle.sys_threads.specs.Inside.{begins, is_static, with_number}
 
 pub all_three : (a b c : Bool) → ((a && b) && c) ≡ true → (a ≡ true) × (b ≡ true) × (c ≡ true)
 all_three true true true is = (refl, refl, refl)
@@ -30,20 +26,14 @@ all_three true true false is = absurd (true≢false (sym is))
 all_three true false c is = absurd (true≢false (sym is))
 all_three false b c is = absurd (true≢false (sym is))
 
-pub all_five : (a b c d e : Bool) → (((a && b) && (c && d)) && e) ≡ true → (a ≡ true) × (b ≡ true) × (c ≡ true) × (d ≡ true) × (e ≡ true)
-all_five a b c d e is =
-    let outer = all_three (a && b) (c && d) e is in
-    let front = all_three a b true (ap (λ t. t && true) outer.0) in
-    let back = all_three c d true (ap (λ t. t && true) outer.1) in
-    (front.0, front.1, back.0, back.1, outer.2)
+pub all_four : (a b c d : Bool) → ((a && b) && (c && d)) ≡ true → (a ≡ true) × (b ≡ true) × (c ≡ true) × (d ≡ true)
+all_four true true c d is = let back = all_three c d true (ap (λ t. t && true) is) in (refl, refl, back.0, back.1)
+all_four true false c d is = absurd (true≢false (sym is))
+all_four false b c d is = absurd (true≢false (sym is))
 
 -- an item that a loop over a slice reads
 pub item_read : {X : Type 0} (xs : List X) (k : ℕ) (x : X) → k < length xs → x ≡ get_or xs k x → slice_get xs k ≡ Some x
 item_read xs k x w e = slice_get_read xs (length xs) k x refl w e
-
--- what holds of all holds of it
-pub item_is : {X : Type 0} (P : X → Type 0) (xs : List X) (k : ℕ) (x : X) → k < length xs → x ≡ get_or xs k x → All P xs → P x
-item_is P xs k x w e all = subst P (sym e) (all k x w)
 
 pub front_count : {X : Type 0} (xs : List X) (k : ℕ) (x : X) → slice_get xs k ≡ Some x → length (take k xs) ≡ k
 front_count xs k x e = let h = length_front xs k x e in omega (arith, h)
@@ -61,49 +51,7 @@ below_more true k numbers all =
     one zero d w = omega arith
     one (suc j) d w = absurd (omega (arith, w))
 
-pub one_most : {J : Type 0} (body : BodyParts J) → own_channels body ≤ 1
-one_most {J} (Source p) = by p.exports where
-  by : (o : Option (ExportParts J)) → (if is_some o then 1 else 0) ≤ 1
-  by None = omega arith
-  by (Some exports) = omega arith
-one_most {J} (Pipe p) = omega arith
-
 module _ {J : Type 0} (verdict : J → Net → Route → Verdict) where
-  -- ---- channels
-
-  module _ (tables : List (List ℕ × Family)) where
-    session_counts : (n table : ℕ) (name : List ℕ) (o : Option (ExportParts J)) → length (session tables n name table (option_map (exports_seen verdict) o)) ≡ (if is_some o then 1 else 0)
-    session_counts n table name None = refl
-    session_counts n table name (Some exports) = refl
-
-    body_counts : (n : ℕ) (name : List ℕ) (body : BodyParts J) → HasOwn (body_seen verdict body) → length (channels_in tables n name (body_seen verdict body)) ≡ own_channels body
-    body_counts n name (Source p) own = session_counts n p.table name p.exports
-    body_counts n name (Pipe p) own = absurd own
-
-    channels_more : (n k : ℕ) (ps : List (ProtocolParts J)) (p : ProtocolParts J)
-        → ((m : ℕ) → length (channels_in tables m p.name (body_seen verdict p.body)) ≡ k)
-        → length (channels_from tables n (map (protocol_seen verdict) (ps ++ p ∷ []))) ≡ length (channels_from tables n (map (protocol_seen verdict) ps)) + k
-    channels_more n k [] p each =
-        let here = each n in
-        let whole = length-append (channels_in tables n p.name (body_seen verdict p.body)) [] in
-        omega (arith, here, whole)
-    channels_more n k (q ∷ ps) p each =
-        let first = channels_in tables n q.name (body_seen verdict q.body) in
-        let more = length-append first (channels_from tables (n + 1) (map (protocol_seen verdict) (ps ++ p ∷ []))) in
-        let less = length-append first (channels_from tables (n + 1) (map (protocol_seen verdict) ps)) in
-        let rest = channels_more (n + 1) k ps p each in
-        omega (arith, more, less, rest)
-
-    pub channels_turn : (xs : List (ProtocolParts J)) (k count : ℕ) (x : ProtocolParts J) → slice_get xs k ≡ Some x → HasOwn (body_seen verdict x.body)
-        → count ≡ length (channels_from tables 0 (map (protocol_seen verdict) (take k xs)))
-        → count + own_channels x.body ≡ length (channels_from tables 0 (map (protocol_seen verdict) (take (k + 1) xs)))
-    channels_turn xs k count x e own was =
-        let more = channels_more 0 (own_channels x.body) (take k xs) x (λ m. body_counts m x.name x.body own) in
-        ap (λ n. n + own_channels x.body) was ∙ sym more
-        ∙ sym (ap (λ (l : List (ProtocolParts J)). length (channels_from tables 0 (map (protocol_seen verdict) l))) (take_one_more xs k x e))
-
-  -- ---- starts
-
   starts_more : (n : ℕ) (ps : List Protocol) (p : Protocol) (earlier : List Act) → starts_from n (ps ++ p ∷ []) earlier ≡ with_begin (n + length ps) p.body (starts_from n ps earlier)
   starts_more n [] p earlier = ap (λ m. with_begin m p.body earlier) (let e : n ≡ n + 0 = omega arith in e)
   starts_more n (q ∷ ps) p earlier =

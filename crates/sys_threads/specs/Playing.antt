@@ -1,24 +1,25 @@
 -- What a phase of a run is to its locks (`terms_of`): what is played, the lines, all turns of the
--- phases before it (`turns_before`), and how many actors there are. And what a channel lets pass
--- (`sent_by`).
+-- phases before it (`turns_before`), and how many actors there are. And what its channels let pass
+-- (`sent_in`), by which rules (`rules_in`).
 -- Turns are read backwards; phases and lines are in their order.
--- Not modelled: pipes.
 -- From: own.
 -- Example: in the first phase there are no turns before.
-use Rattle.std.specs.Prelude.{ℕ, false, List, [], ◌∷◌, ◌++◌, map, reverse, Option, Some, None, slice_get}
+use Rattle.std.specs.Prelude.{ℕ, List, [], ◌∷◌, ◌++◌, map, reverse, Option, Some, None, slice_get}
 use Rattle.attrs.specs.declared.judge.Verdict.{Verdict}
-use Rattle.attrs.specs.declared.judge.Verdict.TheVariants as verdicts
 use Rattle.attrs.specs.declared.route.Route.{Route}
 use Rattle.bits_ip.specs.Prefix.{Net}
-use Rattle.bits_ip.specs.declared.address.Family.TheVariants.{V4}
 use Rattle.core_machine.specs.Lines as machine
 use Rattle.core_machine.specs.Lines.{Turn}
-use Rattle.core_setup.specs.Channels.{Channel, channel_at}
+use Rattle.core_machine.specs.Rules.{Rules}
+use Rattle.core_setup.specs.Protocols.{rules_of}
 use Rattle.core_setup.specs.Setup.{Exports, Setup}
 use Rattle.import_lock.specs.Terms.{PhaseTerms}
+use Rattle.import_lock.specs.declared.state.OpRecord.{OpRecord}
 use Rattle.phase_answers.specs.declared.lent.Lent.{Lent}
-use Rattle.phase_close.specs.declared.seats.SessionEnded.{SessionEnded}
-use Rattle.phase_whole.specs.Prints.{turn_of_record}
+use Rattle.room_close.specs.declared.ended.MemberEnded.{MemberEnded}
+use Rattle.room_close.specs.declared.ended.MemberEnded.TheVariants.{Own, Pipe}
+use Rattle.room_first.specs.Sent.{sent_by}
+use Rattle.room_whole.specs.Prints.{turn_of_record}
 use Rattle.show_route.specs.declared.query.Query.{Query}
 use Rattle.sys_run.specs.Parts.{setup_seen}
 use Rattle.sys_run.specs.Scripts.{line_of}
@@ -26,41 +27,22 @@ use Rattle.sys_threads.specs.declared.parts.LentParts.{LentParts}
 use Rattle.sys_threads.specs.declared.playing.Earlier.{Earlier}
 use Rattle.sys_threads.specs.declared.playing.Playing.{Playing}
 
--- what the channel of a number lets pass; there is no other channel
-abbrev pub exports_in : Option Channel → Exports
-exports_in None = record {
-  spec = record {
-    family = V4;
-    own = 0;
-    to_ebgp = false;
-    interpret = false;
-    every = false;
-    sources = [];
-  };
-  filter = λ net route. verdicts.Reject None;
-}
-exports_in (Some channel) = channel.exports
-
-abbrev pub sent_by : Setup → ℕ → Exports
-sent_by setup c = exports_in (channel_at setup c)
-
 module _ {J : Type 0} where
-  -- what a lent filter says is what the lender's does
-  abbrev pub lent_by :
-      (J → Net → Route → Verdict) → Lent J → Net → Route → Verdict
-  lent_by verdict lent = verdict lent.judge.now
-
   -- ---- the phases before
 
-  abbrev pub turns_of : List machine.Line → Option (SessionEnded (Lent J)) → List Turn
+  abbrev pub ops_in : MemberEnded (Lent J) → List OpRecord
+  ops_in (Own session) = session.ops.items
+  ops_in (Pipe pipe) = pipe.ops.items
+
+  abbrev pub turns_of : List machine.Line → Option (MemberEnded (Lent J)) → List Turn
   turns_of lines None = []
-  turns_of lines (Some session) = reverse (map (turn_of_record lines) session.ops.items)
+  turns_of lines (Some member) = reverse (map (turn_of_record lines) (ops_in member))
 
   -- the turns of a protocol in a phase that is over
   abbrev pub turns_in : List Query → Earlier J → ℕ → List Turn
   turns_in queries phase i =
       turns_of (map (line_of queries) phase.lines.value.items)
-      (slice_get phase.made.value.ended.sessions.items i)
+      (slice_get phase.made.value.ended.members.items i)
 
   abbrev pub turns_before : List Query → List (Earlier J) → ℕ → List Turn
   turns_before queries [] i = []
@@ -86,3 +68,6 @@ module _ {J : Type 0} where
     -- what its channels let pass
     abbrev pub sent_in : Playing J → ℕ → Exports
     sent_in played = sent_by (setup_lent played.parts)
+
+    abbrev pub rules_in : Playing J → Rules
+    rules_in played = rules_of (setup_lent played.parts)

@@ -2,10 +2,9 @@
 -- stands behind them (`Rests`). Which setups (`IsFew`) and which lines of a phase (`CanPlay`) can
 -- be run.
 -- Lines of scripts are read backwards, those of `CanPlay` are in their order.
--- Not modelled: pipes.
 -- From: own.
 -- Example: a new runner has run nothing, and its static protocols are still to start.
-use Rattle.std.specs.Prelude.{◌≡◌, ◌≤◌, ◌<◌, ◌+◌, ◌^◌, ℕ, List, length, ⊤}
+use Rattle.std.specs.Prelude.{◌≡◌, ◌≤◌, ◌<◌, ◌^◌, ℕ, List, length, ⊤}
 use Rattle.std.specs.List.{All}
 use Rattle.attrs.specs.declared.judge.Verdict.{Verdict}
 use Rattle.attrs.specs.declared.route.Route.{Route}
@@ -15,31 +14,28 @@ use Rattle.core_machine.specs.Lines as machine
 use Rattle.core_setup.specs.Channels.{channels}
 use Rattle.core_setup.specs.Protocols.{rules_of, starts}
 use Rattle.core_setup.specs.Reports.{AreReports, protocol_names}
-use Rattle.core_setup.specs.Setup.{Body, IsPipe, IsSource, Protocol, Setup}
-use Rattle.phase_open.specs.Standing.{Stands}
-use Rattle.phase_run.specs.Played.{starts_of}
-use Rattle.phase_whole.specs.Past.{HasPast}
+use Rattle.core_setup.specs.Setup.{Setup}
 use Rattle.report.specs.declared.phase.PhaseReport.{PhaseReport}
+use Rattle.room_first.specs.Sent.{lent_by, sent_by}
+use Rattle.room_open.specs.Standing.{Stands}
+use Rattle.room_report.specs.Described.{AreLogged}
+use Rattle.room_run.specs.Played.{starts_of}
+use Rattle.room_whole.specs.Past.{HasPast}
 use Rattle.script_lines.specs.declared.script.Line.{Line}
 use Rattle.script_lines.specs.declared.script.Line.TheVariants as lines
 use Rattle.sys_run.specs.Playing.{joined_all, starts_in}
 use Rattle.sys_run.specs.Scripts.{FitsLine}
-use Rattle.sys_threads.specs.Playing.{lent_by, sent_by, setup_lent, terms_of, turns_before}
+use Rattle.sys_threads.specs.Playing.{setup_lent, terms_of, turns_before}
 use Rattle.sys_threads.specs.declared.playing.Playing.{Playing}
 use Rattle.sys_threads.specs.declared.runner.Runner.{Runner}
 
 -- ---- what can be run
 
--- it isn't a pipe
-abbrev pub HasOwn : Body → Type 0
-HasOwn (IsSource p) = ⊤
-HasOwn (IsPipe p) = ⊥
-
--- no protocol is a pipe, and a room has seats for all
+-- a room has seats for all
 pub record IsFew (setup : Setup) (actors : ℕ) : Type 0 where
-  pub own : All (λ (p : Protocol). HasOwn p.body) setup.protocols
   pub tables : length setup.tables ≤ 1024
   pub protocols : length setup.protocols ≤ 512
+  pub channels : length (channels setup) ≤ 512
   pub cells : (0 < setup.cells) × (setup.cells ≤ 4096)
   pub seats : actors < 1024
 
@@ -75,6 +71,7 @@ module _ {J : Type 0} (verdict : J → Net → Route → Verdict) where
     pub actors_are : runner.actors ≡ actors
     pub channels_are : runner.channels ≡ length (channels setup)
     pub names_are : runner.names.items ≡ protocol_names setup
+    pub logged_are : AreLogged setup (joined_all nothing printed) runner.logged.items
     pub phases_are : length runner.earlier.items ≡ length printed
     pub starts_are : starts_of runner.statics.items ≡ starts_in setup (length printed)
     pub statics : All (λ (number : ℕ). number < length setup.protocols) runner.statics.items

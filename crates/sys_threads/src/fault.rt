@@ -4,7 +4,7 @@ ghost use Rattle.sys_threads.specs.declared.fault.RunFault.TheVariants.{Memory};
 
 use bits_ip::OutOfMemory;
 use import_lock::OpFault;
-use phase_run::PlayFault;
+use room_run::PlayFault;
 use thiserror::Error;
 
 /// Why a phase wasn't run to its end. The runner is gone then.

@@ -4,7 +4,7 @@ use attrs::Judge;
 use export_lock::Sends;
 use import_lock::Phase;
 use phase_answers::Lent;
-use phase_run::PlayedRoom;
+use room_run::PlayedRoom;
 use script_lines::Line;
 use std::snapshot::Snapshot;
 
@@ -32,10 +32,9 @@ impl<'p, J: Judge + Drop> Phase for Playing<'p, J> {
 }
 
 impl<'p, J: Judge + Drop> Sends for Playing<'p, J> {
-    ghost use Rattle.core_setup.specs.Protocols.{rules_of};
-    ghost use Rattle.sys_threads.specs.Playing.{sent_in, setup_lent};
+    ghost use Rattle.sys_threads.specs.Playing.{rules_in, sent_in};
 
     ghost exports = { λ played. sent_in J.verdict played };
 
-    ghost rules = { λ played. rules_of (setup_lent J.verdict played.parts) };
+    ghost rules = { λ played. rules_in J.verdict played };
 }

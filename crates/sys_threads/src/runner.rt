@@ -1,30 +1,29 @@
 //! The runner.
-ghost use Rattle.std.specs.Prelude.{◌≡◌, ◌≢◌, ◌<◌, ◌≤◌, ◌++◌, ◌∷◌, ◌^◌, ℕ, [], Err, List, IfOk, length, map};
+ghost use Rattle.std.specs.Prelude.{◌≡◌, ◌≢◌, ◌<◌, ◌++◌, ◌∷◌, ℕ, [], Err, List, IfOk, length};
 ghost use Rattle.std.specs.List.{All};
 ghost use Rattle.core_machine.specs.Lines.{Line as MachineLine};
 ghost use Rattle.core_setup.specs.Channels.{channels as channels_of};
 ghost use Rattle.core_setup.specs.Setup.{IsSetup, Setup};
-ghost use Rattle.phase_open.specs.Opening.{IsOpening};
-ghost use Rattle.phase_open.specs.Standing.{Stands};
-ghost use Rattle.phase_open.specs.declared.opening.Opening.{Opening as OpeningView};
-ghost use Rattle.phase_open.specs.declared.standing.StandingProtocol.{StandingProtocol as HeldView};
-ghost use Rattle.phase_open.specs.declared.standing.StandingTable.{StandingTable as TableView};
-ghost use Rattle.phase_actors.specs.Script.{IsScript};
 ghost use Rattle.phase_answers.specs.declared.lent.Lent.{Lent as LentView};
-ghost use Rattle.phase_run.specs.Played.{IsPlayed, starts_of};
+ghost use Rattle.phase_open.specs.declared.standing.StandingTable.{StandingTable as TableView};
 ghost use Rattle.report.specs.declared.phase.PhaseReport.{PhaseReport as Report};
+ghost use Rattle.room_actors.specs.Script.{IsScript};
+ghost use Rattle.room_first.specs.Sent.{lent_by};
+ghost use Rattle.room_open.specs.Opening.{IsOpening};
+ghost use Rattle.room_open.specs.Standing.{Stands};
+ghost use Rattle.room_open.specs.declared.opening.Opening.{Opening as OpeningView};
+ghost use Rattle.room_open.specs.declared.standing.StandingMember.{StandingMember as HeldView};
+ghost use Rattle.room_run.specs.Played.{IsPlayed, starts_of};
 ghost use Rattle.sys_run.specs.Scripts.{phase_of};
 ghost use Rattle.sys_threads.specs.Inside.{IsOneMore};
-ghost use Rattle.sys_threads.specs.Playing.{lent_by, sent_by, sent_in, setup_lent, terms_of};
+ghost use Rattle.sys_threads.specs.Playing.{rules_in, sent_in, setup_lent, terms_of};
 ghost use Rattle.sys_threads.specs.Running.{CanPlay, HasRun, IsFew};
 ghost use Rattle.sys_threads.specs.declared.fault.RunFault.TheVariants.{Late};
-ghost use Rattle.sys_threads.specs.declared.playing.Earlier.{Earlier as EarlierView};
 ghost use Rattle.sys_threads.specs.declared.playing.Playing.{Playing as PlayingView};
 
 use crate::fault::RunFault;
-use crate::first::stand_first;
-use crate::named::{channels_in, copy_names};
-use crate::noted::{logged_of, numbers_of};
+use crate::logged::none_logged;
+use crate::named::copy_names;
 use crate::parts::LentParts;
 use crate::playing::{Earlier, Playing};
 use crate::statics::statics_of;
@@ -34,16 +33,16 @@ use export_lock::Sends;
 use import_lock::Phase;
 use outside_io::Gate;
 use phase_actors::Answers;
-use phase_actors::laws::lines_can_be_done;
 use phase_answers::{Answering, Lent};
-use phase_open::{Opening, Standing, open_room};
-use phase_report::{report_phase, stand_after};
-use phase_room::laws::first_phases_stand;
-use phase_run::{PlayedRoom, play_room};
-use phase_whole::laws::{
-    nothing_was_printed_before, played_phases_are_legal, sessions_are_of_what_stood,
-};
 use report::PhaseReport;
+use room_actors::laws::lines_can_be_done;
+use room_first::{count_channels, sources_of, stand_first};
+use room_open::{Opening, Standing, open_room};
+use room_report::{log_lengths, note_numbers, report_phase, stand_after};
+use room_run::{PlayedRoom, play_room};
+use room_whole::laws::{
+    members_are_of_what_stood, nothing_was_printed_before, played_phases_are_legal,
+};
 use script_lines::{Line, Name};
 use show_route::Query;
 use std::alloc::Global;
@@ -63,6 +62,8 @@ pub struct Runner<'p, J: Judge + Drop> {
     channels: u32,
     /// The protocols' names.
     names: Vec<Seq<u8>>,
+    /// By channel how many items of its log were reported.
+    logged: Vec<usize>,
     earlier: Vec<Earlier<'p, J>>,
     standing: Standing<Lent<'p, J>>,
     /// Which protocols are still to start.
@@ -83,15 +84,16 @@ impl<'p, J: Judge + Drop> Runner<'p, J> {
         ensures { IfOk result (λ runner. (names : List (List ℕ)) → length names ≡ actors
             → HasRun J.verdict (setup_lent J.verdict parts.entry) names [] [] runner) }
     {
-        first_phases_stand::<Lent<'p, J>>();
         nothing_was_printed_before::<Lent<'p, J>, Playing<'p, J>>();
         let standing = stand_first(alloc, hasher, parts.tables, parts.protocols)?;
+        let channels = count_channels(parts.protocols);
         Ok(Runner {
             alloc,
             parts,
             actors: actors as u32,
-            channels: channels_in(parts.protocols),
+            channels,
             names: copy_names(alloc, parts.protocols)?,
+            logged: none_logged(alloc, channels)?,
             earlier: Vec::new(alloc),
             standing,
             statics: statics_of(alloc, parts.protocols)?,
@@ -101,8 +103,8 @@ impl<'p, J: Judge + Drop> Runner<'p, J> {
 
 impl<'p, J: Judge + Drop + Sync> Runner<'p, J> {
     /// Runs one more phase: in the first one static protocols start, then a thread for each actor
-    /// does its lines while four workers serve the channels, and a sync ends the phase. `actors`
-    /// are the names of all who speak in the script.
+    /// does its lines while four workers serve channels and pipes, and a sync ends the phase.
+    /// `actors` are the names of all who speak in the script.
     pub fn play<R: Threads + Wait + Sync, G: Gate + Sync>(
         self,
         rt: &R,
@@ -123,19 +125,19 @@ impl<'p, J: Judge + Drop + Sync> Runner<'p, J> {
             → HasRun J.verdict setup actors.now scripts reports self.entry → scripts ≡ [] }
     {
         played_phases_are_legal::<Lent<'p, J>, Playing<'p, J>>();
-        sessions_are_of_what_stood::<Lent<'p, J>, Playing<'p, J>>();
+        members_are_of_what_stood::<Lent<'p, J>, Playing<'p, J>>();
         let Runner {
             alloc,
             parts,
             actors: seats,
             channels,
             names,
+            logged,
             earlier,
             standing,
             statics,
         } = self;
-        let logged = logged_of(alloc, &standing.protocols)?;
-        let numbers = numbers_of(alloc, &standing.protocols)?;
+        let numbers = note_numbers(alloc, &standing.members)?;
         let playing = Playing {
             parts,
             actors: seats,
@@ -149,6 +151,7 @@ impl<'p, J: Judge + Drop + Sync> Runner<'p, J> {
         let tables = parts.tables;
         let report = report_phase(alloc, number, tables, &names, actors, lines, &logged, &made)?;
         let earlier = push_earlier(earlier, lines, &made)?;
+        let lengths = log_lengths(alloc, &made)?;
         let standing = stand_after(alloc, tables, &numbers, before, made)?;
         let runner = Runner {
             alloc,
@@ -156,6 +159,7 @@ impl<'p, J: Judge + Drop + Sync> Runner<'p, J> {
             actors: seats,
             channels,
             names,
+            logged: lengths,
             earlier,
             standing,
             statics: Vec::new(alloc),
@@ -198,14 +202,14 @@ fn play_opened<
     statics: &[u32],
 ) -> Result<(PlayedRoom<J>, Vec<Vec<JEntry>>), RunFault>
     requires opening { (played : P) × (tables : List TableView)
-        × (protocols : List (HeldView J))
-        × IsOpening P.terms P.exports played tables protocols opening }
+        × (members : List (HeldView J))
+        × IsOpening P.terms P.exports P.rules played tables members opening }
     requires script { IsScript P.terms opening.room queries.now.items lines.now.items }
     requires setup { A.setup answers.now ≡ (P.terms opening.room.played.value).setup }
-    requires statics { All (λ (number : ℕ). number < length opening.room.sessions.items)
+    requires statics { All (λ (number : ℕ). number < length opening.room.members.items)
         statics.now }
-    ensures played { IfOk result (λ made.
-        IsPlayed J.verdict P.terms P.exports opening.room (starts_of statics.now) made.0
+    ensures played { IfOk result (λ made. IsPlayed J.verdict P.terms P.exports P.rules
+        opening.room (starts_of statics.now) made.0
         × (made.1 ≡ opening.before)) }
     ensures late { result ≡ Err RunFault.Late → statics.now ≢ [] }
 {
@@ -234,18 +238,20 @@ fn play_phase<'p, R: Threads + Wait + Sync, G: Gate + Sync, J: Judge + Drop + Sy
     requires statics { All (λ (number : ℕ).
         number < length (setup_lent J.verdict playing.now.parts).protocols) statics.now }
     ensures played { IfOk result (λ made. (opening : OpeningView (LentView J) (PlayingView J))
-        × IsOpening (terms_of J.verdict) (sent_in J.verdict) playing.now
-        standing.entry.tables.items standing.entry.protocols.items opening
-        × IsPlayed (lent_by J.verdict) (terms_of J.verdict) (sent_in J.verdict) opening.room
-        (starts_of statics.now) made.0
+        × IsOpening (terms_of J.verdict) (sent_in J.verdict) (rules_in J.verdict) playing.now
+        standing.entry.tables.items standing.entry.members.items opening
+        × IsPlayed (lent_by J.verdict) (terms_of J.verdict) (sent_in J.verdict)
+        (rules_in J.verdict) opening.room (starts_of statics.now) made.0
         × (made.1 ≡ opening.before)) }
     ensures late { result ≡ Err RunFault.Late → statics.now ≢ [] }
 {
     lines_can_be_done::<Lent<'p, J>, Playing<'p, J>>();
     let parts = playing.parts;
+    let sources = sources_of(alloc, parts.protocols)?;
     let opening = open_room(
         alloc,
         playing,
+        sources,
         parts.cells,
         playing.actors,
         channels,

@@ -1,10 +1,12 @@
 -- What is played can be played.
-use Rattle.std.proofs.Common.{◌≡◌, ℕ, Bool, true, false, List, Option, Some, None, sym, subst, inl, inr}
+use Rattle.std.proofs.Common.{◌≡◌, ℕ, Bool, true, false, List, map, Option, Some, None, sym, subst, inl, inr}
 use Rattle.std.specs.Prelude.{IfSome}
+use Rattle.core_setup.specs.Plays.{IsLegalPlay, IsPlay}
 use Rattle.core_setup.specs.Setup.{IsSetup, Setup}
 use Rattle.report.specs.declared.phase.PhaseReport.{PhaseReport}
 use Rattle.script_lines.specs.declared.script.Line.{Line}
 use Rattle.show_route.specs.declared.query.Query.{Query}
+use Rattle.sys_run.specs.Scripts.{phase_of}
 use Rattle.sys_build.specs.Scripts as script_answers
 use Rattle.sys_build.specs.Scripts.{Answers}
 use Rattle.sys_build.specs.Setups.{IsPlayable, setup_of}
@@ -14,7 +16,6 @@ use Rattle.conf_system.specs.Texts.{IsSystem}
 use Rattle.birdcore_top.specs.Command.{Command, Play, Run, Check}
 use Rattle.birdcore_top.specs.Outcome.{Held, Misused, IsPossible, Played, ScriptGives}
 use Rattle.birdcore_top.specs.Written.{AreReportsOf}
-use Rattle.phases_out.specs.Written.{ArePlayed, AreRun}
 
 not_misused : (setup : Setup) (actors : List (List ℕ)) (phases : List (List Line)) → Played setup actors phases ≡ Misused → ⊥
 not_misused setup actors phases same = cc
@@ -35,9 +36,9 @@ module _ (can_be : (conf text : List ℕ) (system : System) (schedule : Bool) (p
   is_setup (Some (Check conf None)) held setup actors phases is = absurd is
   is_setup (Some (Check conf (Some script))) held setup actors phases is = absurd is
 
-  pub are_legal : ((setup : Setup) (actors : List (List ℕ)) (phases : List (List Line)) (reports : List PhaseReport) → IsSetup setup → ArePlayed setup actors phases reports → AreRun setup actors phases reports)
+  pub are_legal : ((setup : Setup) (actors : List (List ℕ)) (phases : List (List Line)) (reports : List PhaseReport) → IsSetup setup → IsPlay setup actors (map (phase_of setup.queries) phases) reports → IsLegalPlay setup actors (map (phase_of setup.queries) phases) reports)
       → (command : Option Command) (held : Held) (setup : Setup) (actors : List (List ℕ)) (phases : List (List Line)) (reports : List PhaseReport) → IsPossible command held (Played setup actors phases)
-      → AreReportsOf command setup actors phases reports → AreRun setup actors phases reports
+      → AreReportsOf command setup actors phases reports → IsLegalPlay setup actors (map (phase_of setup.queries) phases) reports
   are_legal law None held setup actors phases reports possible are = absurd (not_misused setup actors phases possible)
   are_legal law (Some (Play conf script cells form)) held setup actors phases reports possible are =
       law setup actors phases reports (is_setup (Some (Play conf script cells form)) held setup actors phases possible) are

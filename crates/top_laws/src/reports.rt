@@ -1,6 +1,6 @@
 //! What is played comes to one list of reports, and these are legal.
 ghost use Rattle.std.specs.Prelude.{◌≡◌, ℕ, List, Option, map};
-ghost use Rattle.core_setup.specs.Plays.{IsLegalPlay};
+ghost use Rattle.core_setup.specs.Plays.{IsLegalPlay, IsPlay};
 ghost use Rattle.core_setup.specs.Setup.{Setup};
 ghost use Rattle.report.specs.declared.phase.PhaseReport.{PhaseReport};
 ghost use Rattle.script_lines.specs.declared.script.Line.{Line};
@@ -8,7 +8,6 @@ ghost use Rattle.sys_run.specs.Scripts.{phase_of};
 ghost use Rattle.birdcore_top.specs.Command.{Command};
 ghost use Rattle.birdcore_top.specs.Outcome.{Held, Played, IsPossible};
 ghost use Rattle.birdcore_top.specs.Written.{AreReportsOf};
-ghost use Rattle.phases_out.specs.Written.{ArePlayed};
 
 use core_setup::laws::{plays_are_legal, reports_are_determined};
 use sys_build::laws::accepted_scripts_are_setups;
@@ -19,7 +18,8 @@ pub fn phases_come_to_one_report()
     ensures { (command : Option Command) (held : Held) (setup : Setup)
         (actors : List (List ℕ)) (phases : List (List Line)) (reports others : List PhaseReport)
         → IsPossible command held (Played setup actors phases)
-        → ArePlayed setup actors phases reports → ArePlayed setup actors phases others
+        → IsPlay setup actors (map (phase_of setup.queries) phases) reports
+        → IsPlay setup actors (map (phase_of setup.queries) phases) others
         → reports ≡ others }
 {
     accepted_scripts_are_setups();

@@ -2,13 +2,14 @@ use Rattle.std.proofs.Common.{◌≡◌, ◌+◌, List, Vec, Global, Err, length
 use Rattle.core_setup.specs.Reports.{IsReport}
 use Rattle.script_lines.specs.declared.script.Line.{Line}
 use Rattle.sys_run.specs.Scripts.{line_of}
-use Rattle.phase_open.specs.declared.standing.StandingProtocol.{StandingProtocol}
 use Rattle.phase_answers.specs.declared.lent.Lent.{Lent}
-use Rattle.phase_report.specs.Described.{IsDescribed}
-use Rattle.phase_run.specs.Played.{IsPlayed, starts_of}
-use Rattle.phase_whole.specs.Prints.{Prints}
-use Rattle.sys_threads.specs.Inside.{logged_in, numbers_in}
-use Rattle.sys_threads.specs.Playing.{lent_by, sent_in, terms_of}
+use Rattle.room_first.specs.Sent.{lent_by}
+use Rattle.room_open.specs.declared.standing.StandingMember.{StandingMember}
+use Rattle.room_report.specs.Behind.{numbers_in}
+use Rattle.room_report.specs.Described.{IsDescribed}
+use Rattle.room_run.specs.Played.{IsPlayed, starts_of}
+use Rattle.room_whole.specs.Prints.{Prints}
+use Rattle.sys_threads.specs.Playing.{rules_in, sent_in, terms_of}
 use Rattle.sys_threads.specs.declared.fault.RunFault.{RunFault}
 use Rattle.sys_threads.specs.declared.playing.Earlier.{Earlier}
 use Rattle.sys_threads.specs.declared.playing.Playing.{Playing}
@@ -37,7 +38,7 @@ play_phase-requires-clause-channels g c κs within = let r = c.requires in chann
 pub play_phase-requires-clause-statics : goal.play_phase-requires-clause-statics
 play_phase-requires-clause-statics g c κs within =
     let r = c.requires in
-    statics_now g.J.Judge.verdict c.args.self r.0 (length c.args.actors.now) r.3.printed r.3.rests c.deref-3.result.now c.deref-3.ensures.value
+    statics_now g.J.Judge.verdict c.args.self r.0 (length c.args.actors.now) r.3.printed r.3.rests c.deref-2.result.now c.deref-2.ensures.value
 
 pub play_phase-requires-clause-lines : goal.play_phase-requires-clause-lines
 play_phase-requires-clause-lines g c κs within = ap (λ (lines : Vec Line Global). lines.items) c.of.ensures
@@ -46,7 +47,7 @@ pub returns-in_err-made-clause-late : goal.returns-in_err-made-clause-late
 returns-in_err-made-clause-late g c = λ is setup scripts reports run.
     let failed = fault_is c.from_residual-in_err-made.result c.in_err-made.field-0.0 _ c.from_residual-in_err-made.ensures.1 is in
     not_late setup scripts run.printed (starts_of c.args.self.statics.items) run.legal run.rests.starts_are
-    (λ none. c.in_err-made.ensures.late (ap (λ (fault : RunFault). Err fault) failed) (c.deref-3.ensures.value ∙ none_to_start c.args.self.statics.items none))
+    (λ none. c.in_err-made.ensures.late (ap (λ (fault : RunFault). Err fault) failed) (c.deref-2.ensures.value ∙ none_to_start c.args.self.statics.items none))
 
 pub returns-clause-ran : goal.returns-clause-ran
 returns-clause-ran g c =
@@ -56,23 +57,44 @@ returns-clause-ran g c =
     let made = c.in_ok-made.made in
     let is = c.in_ok-made.ensures.played in
     let pushed = c.in_ok-earlier.ensures in
-    let laws : AreLaws verdict = record { legal = c.played_phases_are_legal.ensures; over = c.sessions_are_of_what_stood.ensures } in
+    let lengths = c.in_ok-lengths.lengths in
+    let laws : AreLaws verdict = record { legal = c.played_phases_are_legal.ensures; over = c.members_are_of_what_stood.ensures } in
     let played : Playing g.row.J.Denot = record { parts = old.parts; actors = old.actors; lines = c.of.result; earlier = c.of-2.result } in
-    let new : Runner g.row.J.Denot = record { alloc = old.alloc; parts = old.parts; actors = old.actors; channels = old.channels; names = old.names; earlier = c.in_ok-earlier.earlier; standing = c.in_ok-standing.standing; statics = c.new.result } in
+    let new : Runner g.row.J.Denot = record {
+      alloc = old.alloc;
+      parts = old.parts;
+      actors = old.actors;
+      channels = old.channels;
+      names = old.names;
+      logged = lengths;
+      earlier = c.in_ok-earlier.earlier;
+      standing = c.in_ok-standing.standing;
+      statics = c.new.result;
+    } in
     let playing : IsPlaying verdict old c.args.lines.now.items played is.0 made = record {
       next = record { parts = refl; actors = refl; earlier = ap (λ (earlier : Vec (Earlier g.row.J.Denot) Global). earlier.items) c.of-2.ensures };
       lines_are = ap (λ (lines : Vec Line Global). lines.items) c.of.ensures;
       opens = is.1;
-      is = subst (λ numbers. IsPlayed (lent_by verdict) (terms_of verdict) (sent_in verdict) is.0.room (starts_of numbers) made) c.deref-3.ensures.value is.2;
+      is = subst (λ numbers. IsPlayed (lent_by verdict) (terms_of verdict) (sent_in verdict) (rules_in verdict) is.0.room (starts_of numbers) made) c.deref-2.ensures.value is.2;
     } in
-    let behind : IsBehind verdict old pushed.phase c.in_ok-standing.standing new = record { parts = refl; actors = refl; channels = refl; names = refl; earlier = pushed.new_is; standing = refl; statics = c.new.ensures.items } in
+    let behind : IsBehind verdict old pushed.phase c.in_ok-standing.standing lengths.items new = record {
+      parts = refl;
+      actors = refl;
+      channels = refl;
+      names = refl;
+      logged = refl;
+      earlier = pushed.new_is;
+      standing = refl;
+      statics = c.new.ensures.items;
+    } in
     let number : c.len.result + 1 ≡ length old.earlier.items + 1 = omega (arith, c.len.ensures, old.earlier.ok.0) in
-    run_more verdict laws old new c.args.lines.now.items played is.0 made c.in_ok-standing.standing pushed.phase playing (ap (λ (lines : Vec Line Global). lines.items) pushed.lines_are) pushed.made_is behind c.args.actors.now
+    run_more verdict laws old new c.args.lines.now.items played is.0 made c.in_ok-standing.standing pushed.phase playing (ap (λ (lines : Vec Line Global). lines.items) pushed.lines_are) pushed.made_is lengths.items behind c.args.actors.now
     (can_now verdict old r.0 (length c.args.actors.now) r.3.printed r.3.rests c.args.lines.now.items r.4)
-    c.deref-7.result.now (c.deref-7.ensures.value ∙ c.in_ok-numbers.ensures ∙ ap numbers_in c.deref-2.ensures.value)
-    c.deref-6.result.now (c.deref-6.ensures.value ∙ c.in_ok-logged.ensures ∙ ap (λ (protocols : List (StandingProtocol (Lent g.row.J.Denot))). map logged_in protocols) c.deref.ensures.value)
-    c.in_ok-made.before.items (ap (λ list. list.items) is.3) c.in_ok-standing.ensures c.in_ok-report.report
+    c.deref-6.result.now (c.deref-6.ensures.value ∙ c.in_ok-numbers.ensures ∙ ap (λ (members : List (StandingMember (Lent g.row.J.Denot))). map numbers_in members) c.deref.ensures.value)
+    c.in_ok-made.before.items (ap (λ list. list.items) is.3) c.in_ok-standing.ensures c.in_ok-lengths.ensures c.in_ok-report.report
     (λ s past p described prints.
     subst (λ n. IsReport s c.args.actors.now n past p c.in_ok-report.report) number
-    (c.in_ok-report.ensures s past p (subst (λ names. IsDescribed s old.parts.tables.now names c.args.actors.now c.deref-6.result.now past made) (sym c.deref-4.ensures.value) described)
-    (subst (λ lines. Prints s (map (line_of s.queries) lines) past p made) (sym c.deref-5.ensures.value) prints)))
+    (c.in_ok-report.ensures s past p
+    (subst (λ logged. IsDescribed s old.parts.tables.now c.deref-3.result.now c.args.actors.now logged past made) (sym c.deref-5.ensures.value)
+    (subst (λ names. IsDescribed s old.parts.tables.now names c.args.actors.now old.logged.items past made) (sym c.deref-3.ensures.value) described))
+    (subst (λ lines. Prints s (map (line_of s.queries) lines) past p made) (sym c.deref-4.ensures.value) prints)))

@@ -1,7 +1,0 @@
-use Rattle.std.proofs.Common.{take}
-use Rattle.core_setup.specs.Pairs.{Pairs}
-use Rattle.sys_threads.specs.Inside.{IsFirstTable}
-use Rattle.sys_threads.proofs.first.stand_tables.Given as goal
-
-abbrev pub invariant-loop-table : goal.invariant-loop-table
-invariant-loop-table l = Pairs (λ number table stood. IsFirstTable table stood) 0 (take l.table-index l.tables) l.stood.items
