@@ -3,6 +3,4 @@ pub mod Growing
 pub mod Replying
 pub mod Doing
 pub mod Lines
-pub mod Rooms
 pub mod Walking
-pub mod Fitting

@@ -1,28 +1,16 @@
--- The lines of a phase as actors have them, and that they can be done in a room (`IsScript`,
--- `CanDo`).
--- A line that names what is played and fits it can be done in a room that has all of it
--- (`NamesWhatIs`, `HasAll`).
--- Lines are in their order.
+-- What the lines of a phase name: a protocol or a query that is there (`NamesWhatIs`). The journal of
+-- a table is of the table's family (`IsTableOf`).
 -- Not modelled: lines that drive a channel by hand, which actors pass by.
 -- From: own.
--- Example: `@p1 add 10.0.0.0/8` can be done where p1 has a session whose table is of IPv4.
-use Rattle.std.specs.Prelude.{◌≡◌, ◌<◌, ◌^◌, ℕ, List, length, map, Some, slice_get, ⊤}
+-- Example: `@p1 add 10.0.0.0/8` names what is there where p1 is played.
+use Rattle.std.specs.Prelude.{◌≡◌, ◌<◌, ℕ, List, length, ⊤}
 use Rattle.atomic_table.specs.Seated.{TableId}
 use Rattle.bits_ip.specs.declared.address.Family.{Family}
-use Rattle.import_core.specs.declared.operation.Op.{Op}
 use Rattle.jour_rule.specs.declared.views.Terms.{Terms}
-use Rattle.show_route.specs.declared.query.Query.{Query}
 use Rattle.script_lines.specs.declared.script.Line.{Line}
 use Rattle.script_lines.specs.declared.script.Line.TheVariants as lines
-use Rattle.core_setup.specs.Announced.{IsOfFamily}
-use Rattle.core_setup.specs.Setup.{FitsQuery, Setup}
-use Rattle.sys_run.specs.Scripts.{line_of}
-use Rattle.import_lock.specs.Terms.{PhaseTerms}
+use Rattle.core_setup.specs.Setup.{Setup}
 use Rattle.table_shared.specs.Opening.{TableOpening}
-use Rattle.phase_legal.specs.Shown.{AreBeside}
-use Rattle.phase_room.specs.Sessions.{protocol_terms}
-use Rattle.phase_room.specs.declared.room.Room.{Room}
-use Rattle.phase_room.specs.declared.session.Session.{Session}
 
 -- the journal of a table is of its family
 abbrev pub IsTableOf : List ℕ × Family → TableId × Terms TableOpening → Type 0
@@ -38,38 +26,3 @@ NamesWhatIs setup (lines.Take channel count) = ⊤
 NamesWhatIs setup (lines.Push channel count) = ⊤
 NamesWhatIs setup (lines.Apply actor line protocol op) = NamesProtocol setup protocol
 NamesWhatIs setup (lines.Show actor query) = query < length setup.queries
-
-module _ {J P : Type 0} (terms : P → PhaseTerms) (room : Room J P) where
-  -- the protocol of a number has a session, and the operation is of its table's family
-  pub record CanApply (protocol : ℕ) (op : Op) : Type 0 where
-    pub session : Session J P
-    pub session_at : slice_get room.sessions.items protocol ≡ Some session
-    pub family : IsOfFamily (protocol_terms terms session).port.1.opening.family op
-
-  -- the query of a number is there, and so is all that it names
-  pub record CanShow (number : ℕ) : Type 0 where
-    pub query : Query
-    pub query_at : slice_get (terms room.played.value).setup.queries number ≡ Some query
-    pub table : query.table < length room.tables.items
-    pub fits :
-        FitsQuery (terms room.played.value).setup.tables
-        (terms room.played.value).setup.protocols (terms room.played.value).setup.choices query
-
-  abbrev pub CanDo : Line → Type 0
-  CanDo (lines.Take channel count) = ⊤
-  CanDo (lines.Push channel count) = ⊤
-  CanDo (lines.Apply actor line protocol op) = CanApply protocol op
-  CanDo (lines.Show actor query) = CanShow query
-
-  -- These are the queries and the lines of the phase. Each line can be done, and a line's place is
-  -- a number of 32 bits.
-  pub record IsScript (queries : List Query) (lines : List Line) : Type 0 where
-    pub queries_are : (terms room.played.value).setup.queries ≡ queries
-    pub lines_are : (terms room.played.value).lines ≡ map (line_of queries) lines
-    pub can : (n : ℕ) (line : Line) → slice_get lines n ≡ Some line → CanDo line
-    pub few : length lines < 2 ^ 32
-
-  -- each table has its journal, and each protocol its session
-  pub record HasAll : Type 0 where
-    pub tables : AreBeside IsTableOf (terms room.played.value).setup.tables room.tables.items
-    pub sessions : length room.sessions.items ≡ length (terms room.played.value).setup.protocols

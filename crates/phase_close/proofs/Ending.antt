@@ -1,5 +1,5 @@
--- That a room can be ended once its sessions are closed, and that later turns keep its channels.
-use Rattle.std.proofs.Common.{◌≡◌, ℕ, zero, suc, List, [], ◌∷◌, reverse, Some, None, Option, refl, sym, ap, subst, ◌∙◌, arith, false}
+-- That later turns keep the channels of sessions.
+use Rattle.std.proofs.Common.{◌≡◌, ℕ, zero, suc, List, [], ◌∷◌, reverse, Some, None, Option, refl, sym, ap, subst, ◌∙◌, false}
 use Rattle.std.specs.Prelude.{slice_get}
 use Rattle.std.specs.List.{AllByRecursion}
 use Rattle.std.proofs.lemmas.List.{append_cancel_right}
@@ -13,41 +13,20 @@ use Rattle.table_shared.specs.Opening.{TableOpening}
 use Rattle.jour_rule.specs.declared.views.Entry.{Entry}
 use Rattle.jour.specs.Seats.{front}
 use Rattle.core_machine.specs.Signals.{without_sends}
-use Rattle.core_setup.specs.Setup.{Exports}
-use Rattle.core_setup.proofs.PairLemmas.{get_here, get_within}
-use Rattle.phase_legal.specs.Shown.{AreBeside, HandView}
+use Rattle.phase_legal.specs.Shown.{HandView}
 use Rattle.phase_legal.specs.Stamps.{items_in}
-use Rattle.import_lock.specs.Terms.{ImportTerms, PhaseTerms}
+use Rattle.import_lock.specs.Terms.{ImportTerms}
 use Rattle.export_lock.specs.Kept.{GoesOn}
 use Rattle.export_lock.specs.Terms.{ExportTerms}
 use Rattle.export_lock.specs.declared.state.ExportState.{ExportState}
-use Rattle.phase_room.specs.Sessions.{IsRoom, channel_terms, protocol_terms}
-use Rattle.phase_room.specs.declared.room.Room.{Room}
 use Rattle.phase_close.specs.Closed.{AreLater, IsEnding, IsLater, SessionTerms, TableList}
 use Rattle.phase_close.specs.Left.{AreChannelsLeft, AreMarks, IsChannelLeft, IsImportLeft, IsSessionLeft}
-use Rattle.phase_close.specs.Rooms.{AreHandsOf, AreSessionsLeft, HandsView}
 use Rattle.phase_close.specs.Whole.{IsOver}
 use Rattle.phase_close.specs.declared.session.SessionLeft.{SessionLeft}
 
 pub all_placed : {X : Type 0} (P : X → Type 0) (xs : List X) → ((i : ℕ) (x : X) → slice_get xs i ≡ Some x → P x) → AllByRecursion P xs
 all_placed P [] f = tt
 all_placed P (x ∷ xs) f = (f zero x refl, all_placed P xs (λ i. f (suc i)))
-
-pub can_end : {J P : Type 0} (terms : P → PhaseTerms) (exports : P → ℕ → Exports) (verdict : J → Net → Route → Verdict) (room : Room J P) (hands : List HandsView) (lefts : List (SessionLeft J)) → IsRoom terms exports room → AreBeside (AreHandsOf terms) room.sessions.items hands
-    → AreSessionsLeft terms exports verdict room.sessions.items hands lefts → AllByRecursion (λ (left : SessionLeft J). (key : SessionTerms) × IsOver verdict room.tables.items key left) lefts
-can_end terms exports verdict room hands lefts is beside are =
-    all_placed (λ left. (key : SessionTerms) × IsOver verdict room.tables.items key left) lefts
-    (λ i left at.
-    let inside = get_within lefts i left at in
-    let count = are.count in
-    let many = beside.count in
-    let session = get_here room.sessions.items i (omega (arith, inside, count)) in
-    let own = get_here hands i (omega (arith, inside, count, many)) in
-    let one = are.each i session.0 left session.1 at own.0 own.1 in
-    let s = is i session.0 session.1 in (
-      record { protocol = protocol_terms terms session.0; channel = channel_terms exports session.0; hands = own.0.items },
-      record { left_is = one.left_is; channel_is = s.channel_is; there = ap (slice_get room.tables.items) one.table ∙ s.table },
-    ))
 
 pub marks_kept : {J : Type 0} (verdict : J → Net → Route → Verdict) (key : ImportTerms) (list : List Entry) (made : List (ℕ × Change)) (channel : ExportTerms) (old new : ExportState J) → IsChannelLeft verdict key list made channel old → GoesOn verdict old new
     → without_sends (reverse new.exporter.log) ≡ without_sends (reverse old.exporter.log) → IsChannelLeft verdict key list made channel new

@@ -10,4 +10,3 @@ pub mod Hearing
 pub mod Lefts
 pub mod Over
 pub mod Ending
-pub mod Recorded

@@ -1,8 +1,9 @@
--- What a room has come to once its tables are closed (`IsRoomEnded`).
+-- The entries of a room's tables and what they say (`entries_at`, `said_at`), a session that is over one
+-- of them (`IsOver`), and actors' passes, which are of them (`ArePassesOf`) and have seen what begins
+-- their entries (`ArePassesHeard`).
 -- From: own.
 -- Example: of a room of one table and one protocol the one list has what the protocol's port made.
 use Rattle.std.specs.Prelude.{◌≡◌, ℕ, List, [], Option, Some, None, slice_get}
-use Rattle.std.specs.List.{AllByRecursion}
 use Rattle.std.specs.declared.alloc.Global.{Global}
 use Rattle.std.specs.declared.vec.Vec.{Vec}
 use Rattle.atomic_table.specs.Seated.{TableId}
@@ -14,13 +15,12 @@ use Rattle.jour_rule.specs.declared.views.Entry.{Entry}
 use Rattle.jour_rule.specs.declared.views.Terms.{Terms}
 use Rattle.jour.specs.Seats.{journal}
 use Rattle.table_shared.specs.Opening.{TableOpening}
-use Rattle.table_shared.specs.Phases.{IsHeard, IsPhase}
+use Rattle.table_shared.specs.Phases.{IsHeard}
 use Rattle.table_shared.specs.declared.close.Phase.{Phase}
 use Rattle.phase_legal.specs.Shown.{AreBeside, PassView}
 use Rattle.phase_room.specs.Sessions.{IsChannelOf}
-use Rattle.phase_close.specs.Closed.{EndsOver, SessionTerms, TableList}
+use Rattle.phase_close.specs.Closed.{SessionTerms, TableList}
 use Rattle.phase_close.specs.Left.{IsSessionLeft}
-use Rattle.phase_close.specs.declared.room.RoomEnded.{RoomEnded}
 use Rattle.phase_close.specs.declared.session.SessionLeft.{SessionLeft}
 
 -- the entries of a table, and what they say
@@ -60,17 +60,3 @@ module _ {J : Type 0} (verdict : J → Net → Route → Verdict) where
     pub left_is : IsSessionLeft verdict key.protocol key.channel key.hands left
     pub channel_is : IsChannelOf key.protocol key.channel
     pub there : slice_get tables left.table ≡ Some key.protocol.port
-
-  -- Each table has one list of entries, of which the phases tell; the seats of all sessions have
-  -- ended there, and so have the actors' passes.
-  pub record IsRoomEnded
-      (tables : List (TableId × Terms TableOpening)) (lefts : List (SessionLeft J))
-      (actors : List (PassesView)) (ended : RoomEnded J) : Type 0 where
-    pub lists : List TableList
-    pub tables_are :
-        AreBeside (λ (t : TableId × Terms TableOpening) (l : TableList). l.0 ≡ t) tables lists
-    pub phases :
-        AreBeside (λ (l : TableList) (phase : Phase). IsPhase l.0.1 l.1 phase) lists
-        ended.phases.items
-    pub sessions : AreBeside (EndsOver verdict lists) lefts ended.sessions.items
-    pub passes : AllByRecursion (ArePassesHeard lists) actors

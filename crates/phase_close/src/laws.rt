@@ -1,7 +1,5 @@
 //! What is left of protocols and channels is what a phase owes in the end.
-ghost use Rattle.std.specs.Prelude.{◌≡◌, ◌++◌, ℕ, List, [], None, Some, length, reverse, slice_get};
-ghost use Rattle.std.specs.List.{AllByRecursion};
-ghost use mathlib.Core.List.{IsPrefix};
+ghost use Rattle.std.specs.Prelude.{◌≡◌, ◌++◌, ℕ, List, None, Some, length, reverse, slice_get};
 ghost use Rattle.atomic_table.specs.Seated.{TableId};
 ghost use Rattle.attrs.specs.declared.journal.JEntry.{JEntry};
 ghost use Rattle.attrs.specs.declared.route.Change.{Change};
@@ -17,8 +15,7 @@ ghost use Rattle.core_machine.specs.Lines.{Line};
 ghost use Rattle.core_machine.specs.Signals.{AreSignals, notices, without_sends};
 ghost use Rattle.table_shared.specs.Opening.{TableOpening};
 ghost use Rattle.table_shared.specs.Phases.{IsRetired as IsPortRetired};
-ghost use Rattle.table_shared.specs.Records.{AreRecords, at_first};
-ghost use Rattle.phase_legal.specs.Shown.{AreBeside, HandView, PassView, Room};
+ghost use Rattle.phase_legal.specs.Shown.{HandView, Room};
 ghost use Rattle.phase_legal.specs.Stamps.{AreUpTo, HasPort};
 ghost use Rattle.phase_legal.specs.Turns.{AreStarts, AreTurnsOf, turns_told};
 ghost use Rattle.import_lock.specs.Calls.{IsRoomOf};
@@ -28,20 +25,13 @@ ghost use Rattle.export_lock.specs.Kept.{GoesOn};
 ghost use Rattle.export_lock.specs.Terms.{ExportTerms};
 ghost use Rattle.export_lock.specs.declared.state.ExportState.{ExportState};
 ghost use Rattle.phase_ends.specs.Leaves.{IsMarked, MakesAll};
-ghost use Rattle.phase_room.specs.Sessions.{IsRoom};
-ghost use Rattle.phase_room.specs.declared.room.Room.{Room as RoomView};
-ghost use Rattle.phase_close.specs.Closed.{IsEnding, IsLater, IsSessionEnded, SessionTerms, TableList};
+ghost use Rattle.phase_close.specs.Closed.{IsEnding, IsLater, SessionTerms, TableList};
 ghost use Rattle.phase_close.specs.Left.{AreAllTurns, IsChannelLeft, IsImportLeft};
-ghost use Rattle.phase_close.specs.Rooms.{AreHandsOf, AreSessionsLeft, HandsView};
 ghost use Rattle.phase_close.specs.Turned.{AreTurned};
-ghost use Rattle.phase_close.specs.Whole.{IsOver, IsRoomEnded, PassesView, entries_at, said_at};
-ghost use Rattle.phase_close.specs.declared.room.RoomEnded.{RoomEnded as RoomEndedView};
-ghost use Rattle.phase_close.specs.declared.seats.SessionEnded.{SessionEnded as SessionEndedView};
+ghost use Rattle.phase_close.specs.Whole.{IsOver};
 ghost use Rattle.phase_close.specs.declared.session.SessionLeft.{SessionLeft as SessionLeftView};
 
 use attrs::Judge;
-use export_lock::Sends;
-use import_lock::Phase;
 
 /// The turns of a protocol begin with its starts, where the hand for them has seen only these. Each
 /// actor's turns are those of its hand.
@@ -94,17 +84,6 @@ pub fn marks_tell_all<J: Judge>()
         → IsMarked room history logs entries said p c made }
 {}
 
-/// A room whose sessions are closed can be ended: each session is over one of its tables.
-pub fn rooms_can_end<J: Judge + Drop, P: Phase + Sends>()
-    ensures { (room : RoomView J P) (hands : List HandsView) (lefts : List (SessionLeftView J))
-        → IsRoom P.terms P.exports room
-        → AreBeside (AreHandsOf P.terms) room.sessions.items hands
-        → AreSessionsLeft P.terms P.exports J.verdict room.sessions.items hands lefts
-        → AllByRecursion
-        (λ left. (key : SessionTerms) × IsOver J.verdict room.tables.items key left)
-        lefts }
-{}
-
 /// What is left of a channel stays so by turns that take its table's entries and push, as a sync
 /// does them.
 pub fn later_turns_keep_marks<J: Judge>()
@@ -123,32 +102,4 @@ pub fn later_sessions_can_end<J: Judge>()
     ensures ending { (lists : List TableList) (key : SessionTerms) (old new : SessionLeftView J)
         → IsLater J.verdict old new
         → IsEnding J.verdict lists key old → IsEnding J.verdict lists key new }
-{}
-
-/// Each table of a room that has ended has records of its entries, which each actor's pass has seen a
-/// front of, and each session's port has ended there.
-pub fn tables_have_records<J: Judge>()
-    ensures records { (tables : List (TableId × Terms TableOpening))
-        (lefts : List (SessionLeftView J)) (actors : List PassesView) (ended : RoomEndedView J)
-        → (is : IsRoomEnded J.verdict tables lefts actors ended)
-        → (t : ℕ) (table : TableId × Terms TableOpening) → slice_get tables t ≡ Some table
-        → AreRecords table.1.opening (at_first table.1.opening) (entries_at is.lists t)
-        (said_at ended.phases.items t) }
-    ensures none { (tables : List (TableId × Terms TableOpening))
-        (lefts : List (SessionLeftView J)) (actors : List PassesView) (ended : RoomEndedView J)
-        → IsRoomEnded J.verdict tables lefts actors ended
-        → (t : ℕ) → slice_get tables t ≡ None → said_at ended.phases.items t ≡ [] }
-    ensures seen { (tables : List (TableId × Terms TableOpening))
-        (lefts : List (SessionLeftView J)) (actors : List PassesView) (ended : RoomEndedView J)
-        → (is : IsRoomEnded J.verdict tables lefts actors ended)
-        → (actor : ℕ) (passes : PassesView) → slice_get actors actor ≡ Some passes
-        → (t : ℕ) (pass : PassView) → slice_get passes.items t ≡ Some pass
-        → IsPrefix (front pass.1) (entries_at is.lists t) }
-    ensures sessions { (tables : List (TableId × Terms TableOpening))
-        (lefts : List (SessionLeftView J)) (actors : List PassesView) (ended : RoomEndedView J)
-        → (is : IsRoomEnded J.verdict tables lefts actors ended)
-        → (number : ℕ) (left : SessionLeftView J) (e : SessionEndedView J)
-        → slice_get lefts number ≡ Some left → slice_get ended.sessions.items number ≡ Some e
-        → (key : SessionTerms) → IsOver J.verdict tables key left
-        → IsSessionEnded J.verdict key (entries_at is.lists left.table) e }
 {}

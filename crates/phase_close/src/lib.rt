@@ -2,27 +2,22 @@
 //! retired in the journals of turns and of marks, and what stands there is known of whole lists.
 //!
 //! `turns` ends the hands of a protocol, `marks` the stamp of a channel; `protocol` says what is left
-//! of a protocol then, `session` of one with its channel, and `sessions` of all. `seats` ends ports
-//! and cursors in their tables, `tables` has the tables, and actors' passes. `room` has both halves,
-//! so that channels can be settled between them; by `laws` that is what a phase owes.
+//! of a protocol then, and `session` of one with its channel. `seats` ends ports and cursors in their
+//! tables, `tables` has the tables, and actors' passes; by `laws` that is what a phase owes.
 #![tactic(auto)]
 
 mod channel;
 pub mod laws;
 mod marks;
 mod protocol;
-mod room;
 mod seats;
 mod session;
-mod sessions;
 mod tables;
 mod turns;
 
 pub use marks::retire_stamp;
 pub use protocol::{ProtocolLeft, close_protocol};
-pub use room::{RoomEnded, RoomLeft, close_room, end_room};
-pub use seats::{SessionEnded, end_session_at, end_sessions};
+pub use seats::{SessionEnded, end_session_at};
 pub use session::{SessionLeft, close_session};
-pub use sessions::close_sessions;
 pub use tables::{close_tables, end_tables, hear_actor, hear_actors};
 pub use turns::retire_hands;

@@ -1,21 +1,17 @@
 //! The seats of a session in its table end.
-ghost use Rattle.std.specs.Prelude.{◌≡◌, IfOk, IfSome};
-ghost use Rattle.std.specs.List.{AllByRecursion};
+ghost use Rattle.std.specs.Prelude.{◌≡◌, IfSome};
 ghost use Rattle.jour.specs.Seats.{front, journal};
 ghost use Rattle.table_shared.specs.Phases.{IsHeard, IsRetired as IsPortRetired};
-ghost use Rattle.phase_legal.specs.Shown.{AreBeside};
 ghost use Rattle.phase_room.specs.Sessions.{IsChannelOf};
 ghost use Rattle.phase_close.specs.Closed.{AreHeard, EndsOver, IsEnding, IsSessionEnded, SessionTerms, all_lists};
 ghost use Rattle.phase_close.specs.Left.{IsSessionLeft};
 
 use crate::session::SessionLeft;
 use attrs::Judge;
-use bits_ip::OutOfMemory;
 use export_core::Exporter;
 use export_lock::ExportState;
 use import_core::Importer;
 use import_lock::OpRecord;
-use std::alloc::Global;
 use table_shared::Closing;
 
 /// A protocol with routes of its own, and its channel's exporter, as the phase leaves them.
@@ -112,25 +108,4 @@ pub fn end_session_at<J: Judge + Drop>(
 {
     let place = session.table as usize;
     end_seats(&mut closings[place], session)
-}
-
-/// Ends the seats of all sessions in their tables. Where it refuses, for want of memory, nothing is
-/// said of what there is then.
-pub fn end_sessions<J: Judge + Drop>(
-    alloc: Global,
-    closings: &mut Vec<Closing>,
-    sessions: Vec<SessionLeft<J>>,
-) -> Result<Vec<SessionEnded<J>>, OutOfMemory>
-    requires { AllByRecursion (λ session. (key : SessionTerms)
-        × IsEnding J.verdict (all_lists closings.old.items) key session) sessions.items }
-    ensures same { all_lists closings.new.items ≡ all_lists closings.old.items }
-    ensures ended { IfOk result (λ all.
-        AreBeside (EndsOver J.verdict (all_lists closings.old.items)) sessions.items all.items) }
-{
-    let mut all = Vec::new(alloc);
-    for session in sessions {
-        let ended = end_session_at(closings, session);
-        all.push(ended)?;
-    }
-    Ok(all)
 }

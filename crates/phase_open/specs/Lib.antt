@@ -1,4 +1,2 @@
 pub mod Standing
 pub mod Opening
-pub mod Lists
-pub mod Laid

@@ -1,10 +1,11 @@
--- What stands between two phases (`Stands`): of each table its rows and all its entries so far, of
--- each protocol with routes of its own its importer, and the exporter of its channel, if it has one.
+-- What stands between two phases: of a table its rows and all its entries so far (`IsStandingTable`), of
+-- a protocol with routes of its own its importer, and the exporter of its channel, if it has one
+-- (`IsStandingProtocol`).
 -- Entries are in their order.
 -- Not modelled: pipes.
 -- From: own.
 -- Example: before the first phase no table has an entry, and all is as it is made.
-use Rattle.std.specs.Prelude.{◌≡◌, ℕ, List, length, Option, Some, None, slice_get, ⊤}
+use Rattle.std.specs.Prelude.{◌≡◌, ℕ, List, Option, Some, None, slice_get, ⊤}
 use Rattle.attrs.specs.Table.{AreRows}
 use Rattle.attrs.specs.declared.judge.Verdict.{Verdict}
 use Rattle.attrs.specs.declared.route.Route.{Route}
@@ -12,12 +13,10 @@ use Rattle.bits_ip.specs.Prefix.{Net}
 use Rattle.bits_ip.specs.declared.address.Family.{Family}
 use Rattle.rib.specs.Rib.{AreOfFamily}
 use Rattle.core_setup.specs.Channels.{Channel, channel_at}
-use Rattle.core_setup.specs.Setup.{Exports, IsSetup, Source}
+use Rattle.core_setup.specs.Setup.{Exports, Source}
 use Rattle.import_lock.specs.Terms.{PhaseTerms}
-use Rattle.phase_legal.specs.Shown.{AreBeside}
 use Rattle.phase_room.specs.Rooms.{TableTerms}
 use Rattle.phase_room.specs.Stands.{StandsChannel, StandsSource, StandsTable}
-use Rattle.phase_open.specs.declared.standing.Standing.{Standing}
 use Rattle.phase_open.specs.declared.standing.StandingChannel.{StandingChannel}
 use Rattle.phase_open.specs.declared.standing.StandingProtocol.{StandingProtocol}
 use Rattle.phase_open.specs.declared.standing.StandingTable.{StandingTable}
@@ -63,12 +62,3 @@ module _ {J : Type 0} (verdict : J → Net → Route → Verdict) (phase : Phase
     pub stood_is : slice_get tables held.table ≡ Some stood
     pub stands : StandsSource verdict phase number source (table_stood stood) held.importer
     pub channels : AreStandingChannels number (table_stood stood) source.exports held.channel
-
-  pub record Stands (standing : Standing J) : Type 0 where
-    pub setup : IsSetup phase.setup
-    pub tables : AreBeside IsStandingTable phase.setup.tables standing.tables.items
-    pub count : length standing.protocols.items ≡ length phase.setup.protocols
-    pub protocols :
-        (number : ℕ) (held : StandingProtocol J)
-        → slice_get standing.protocols.items number ≡ Some held
-        → IsStandingProtocol standing.tables.items number held

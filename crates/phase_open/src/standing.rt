@@ -28,10 +28,3 @@ pub struct StandingProtocol<J: Judge> {
     pub importer: Importer<J>,
     pub channel: Option<StandingChannel<J>>,
 }
-
-/// All tables and protocols, by their numbers.
-#[derive(Drop)]
-pub struct Standing<J: Judge> {
-    pub tables: Vec<StandingTable>,
-    pub protocols: Vec<StandingProtocol<J>>,
-}

@@ -12,7 +12,6 @@ use Rattle.core_setup.specs.Setup.{Exports, FitsBody, FitsSource, HasSession, Is
 use Rattle.core_setup.proofs.Numbered.{none_some, protocol_is, some_same}
 use Rattle.import_core.specs.Imports.{route_at}
 use Rattle.phase_room.specs.First.{first_phase, new_exporter, new_importer, nothing_in, smallest, two_neighbours}
-use Rattle.phase_room.specs.Rooms.{homes, ports_of}
 use Rattle.phase_room.specs.Stands.{StandsChannel, StandsSource, StandsTable}
 
 nothing_said : {A B : Type 0} (front : List A) (x : A) (back : List A) → [] ≡ front ++ x ∷ back → B
@@ -62,18 +61,6 @@ module _ {J : Type 0} (verdict : J → Net → Route → Verdict) (setup : Setup
   }
 
 -- ---- worked
-
-one_home : (verdict : Net → Route → Verdict) → homes (smallest verdict) ≡ 0 ∷ []
-one_home verdict = refl
-
-one_port : ports_of 0 0 (0 ∷ []) ≡ (0 ∷ []) ∷ []
-one_port = refl
-
-two_ports : (verdict : Net → Route → Verdict) → ports_of 0 0 (homes (two_neighbours verdict)) ≡ (0 ∷ []) ∷ (1 ∷ []) ∷ []
-two_ports verdict = refl
-
-apart : ports_of 1 0 (0 ∷ 1 ∷ []) ≡ [] ∷ (1 ∷ []) ∷ []
-apart = refl
 
 pub two_is : (verdict : Net → Route → Verdict) → IsSetup (two_neighbours verdict)
 two_is verdict = record {

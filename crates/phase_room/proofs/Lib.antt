@@ -3,9 +3,7 @@ pub mod Dues
 pub mod Standing
 pub mod First
 pub mod Only
-pub mod Rooms
 pub mod Beginning
-pub mod Ports
 pub mod Acting
 pub mod Dealing
 pub mod Entering

@@ -1,8 +1,7 @@
 -- What stands as a phase begins gives all that locks are made of.
-use Rattle.std.proofs.Common.{◌≡◌, ℕ, zero, suc, ◌+◌, ◌<◌, arith, Bool, true, false, List, [], ◌∷◌, length, map, reverse, Option, Some, refl, sym, ap, subst, ◌∙◌}
-use Rattle.std.specs.Prelude.{◌==◌, Contains, IfSome, if◌then◌else◌, slice_get, slice_index_or}
+use Rattle.std.proofs.Common.{◌≡◌, ℕ, ◌+◌, Bool, List, [], ◌∷◌, length, reverse, Option, Some, refl, sym, ap, subst, ◌∙◌}
+use Rattle.std.specs.Prelude.{◌==◌, Contains, IfSome}
 use Rattle.std.specs.List.{AllByRecursion}
-use Rattle.std.proofs.lemmas.Bool.{eqb-true}
 use Rattle.atomic_table.specs.Seated.{TableId}
 use Rattle.attrs.specs.Table.{route_in}
 use Rattle.attrs.specs.declared.judge.Verdict.{Verdict}
@@ -19,9 +18,8 @@ use Rattle.jour_rule.specs.declared.views.View.{View as Seat}
 use Rattle.jour.specs.Seats.{front, journal, number_of, own}
 use Rattle.core_machine.specs.Lines.{ops_of}
 use Rattle.core_setup.specs.Announced.{IsOfFamily}
-use Rattle.core_setup.specs.Protocols.{table_in}
-use Rattle.core_setup.specs.Setup.{Exports, FitsBody, FitsSource, Protocol, Source, family_at}
-use Rattle.core_setup.proofs.Numbered.{itself_is, none_some, protocol_is, some_same}
+use Rattle.core_setup.specs.Setup.{Exports, FitsBody, FitsSource, Source, family_at}
+use Rattle.core_setup.proofs.Numbered.{protocol_is, some_same}
 use Rattle.phase_legal.specs.Changes.{IsAlone}
 use Rattle.table_shared.specs.Opening.{TableOpening, sources_of}
 use Rattle.table_shared.specs.Records.{at_first}
@@ -29,43 +27,9 @@ use Rattle.import_lock.specs.Begun.{IsUnused}
 use Rattle.import_lock.specs.Terms.{AreTerms, PhaseTerms}
 use Rattle.phase_room.specs.Journals.{turns_terms}
 use Rattle.phase_room.specs.Locks.{CanExport, CanImport, export_terms, import_terms}
-use Rattle.phase_room.specs.Rooms.{BeginsTable, IsOwnPort, TableTerms, homes, ports_of, table_terms}
+use Rattle.phase_room.specs.Rooms.{BeginsTable, IsOwnPort, TableTerms}
 use Rattle.phase_room.specs.Stands.{AreChannelSeats, AreSeats, StandsChannel, StandsSource, StandsTable}
 use Rattle.phase_room.specs.Together.{AreTogether}
-
--- ---- ports
-
-home_at : (tables : ℕ) (ps : List Protocol) (i : ℕ) (p : Protocol) → slice_get ps i ≡ Some p → slice_get (map (λ q. table_in tables q.body) ps) i ≡ Some (table_in tables p.body)
-home_at tables [] i p e = none_some e
-home_at tables (q ∷ ps) zero p e = ap (λ z. Some (table_in tables z.body)) (some_same e)
-home_at tables (q ∷ ps) (suc i) p e = home_at tables ps i p e
-
-port_mine : (table n i : ℕ) (hs : List ℕ) → slice_get hs i ≡ Some table → slice_index_or (ports_of table n hs) i [] ≡ (i + n) ∷ []
-port_mine table n i [] e = none_some e
-port_mine table n zero (h ∷ hs) e =
-    ap (λ z. if z == table then n ∷ [] else []) (some_same e)
-    ∙ ap (λ b. if b then n ∷ [] else []) (itself_is table)
-    ∙ ap (λ z. z ∷ []) (let first : n ≡ zero + n = omega arith in first)
-port_mine table n (suc i) (h ∷ hs) e = port_mine table (n + 1) i hs e ∙ ap (λ z. z ∷ []) (let s : i + (n + 1) ≡ suc i + n = omega arith in s)
-
-in_none : (num m : ℕ) → Contains {X = ℕ} [] num → num ≡ m
-in_none num m w = absurd (let less = w.1 in omega (arith, less))
-
-in_one_at : (n num k : ℕ) → k < 1 → slice_index_or (n ∷ []) k num ≡ num → num ≡ n
-in_one_at n num zero less is = sym is
-in_one_at n num (suc k) less is = absurd (omega (arith, less))
-
-in_one : (n num : ℕ) → Contains (n ∷ []) num → num ≡ n
-in_one n num w = in_one_at n num w.0 w.1 w.2
-
-in_either : (b : Bool) (n num : ℕ) → Contains (if b then n ∷ [] else []) num → num ≡ n
-in_either true n num w = in_one n num w
-in_either false n num w = in_none num n w
-
-port_any : (table n i num : ℕ) (hs : List ℕ) → Contains (slice_index_or (ports_of table n hs) i []) num → num ≡ i + n
-port_any table n i num [] w = in_none num (i + n) w
-port_any table n zero num (h ∷ hs) w = in_either (h == table) n num w ∙ (let first : n ≡ zero + n = omega arith in first)
-port_any table n (suc i) num (h ∷ hs) w = port_any table (n + 1) i num hs w ∙ (let s : i + (n + 1) ≡ suc i + n = omega arith in s)
 
 -- ---- a protocol
 
@@ -77,31 +41,6 @@ module _ {J : Type 0} (verdict : J → Net → Route → Verdict) (phase : Phase
   fits : FitsSource phase.setup.tables number source
   fits = subst (FitsBody phase.setup.tables number) s.body (protocol_is phase.setup number s.protocol s.setup s.protocol_is)
 
-  -- ---- where there are no pipes
-
-  abbrev opening_now : TableOpening
-  opening_now = (table_terms phase.setup source.table table).opening
-
-  home_is : slice_get (homes phase.setup) number ≡ Some source.table
-  home_is = home_at (length phase.setup.tables) phase.setup.protocols number s.protocol s.protocol_is ∙ ap (λ z. Some (table_in (length phase.setup.tables) z)) s.body
-
-  mine_is : Contains (sources_of opening_now number) number
-  mine_is =
-      subst (λ l. Contains l number) (sym (port_mine source.table 0 number (homes phase.setup) home_is ∙ ap (λ z. z ∷ []) (let e : number + 0 ≡ number = omega arith in e)))
-      (0, omega arith, refl)
-
-  any_is : (other num : ℕ) → Contains (sources_of opening_now other) num → num ≡ other
-  any_is other num w = port_any source.table 0 other num (homes phase.setup) w ∙ (let e : other + 0 ≡ other = omega arith in e)
-
-  pub own_port_is : IsOwnPort number opening_now
-  own_port_is = record {
-    mine = mine_is;
-    alone = record {
-      mine = λ num w. ap (λ z. z == number) (any_is number num w) ∙ itself_is number;
-      alone = λ other num w same. sym (any_is other num w) ∙ eqb-true num number same;
-    };
-  }
-
   -- ---- its lock
 
   module _ (here : TableId × Terms TableOpening) (port : TableId × Seat TableOpening) (turns : TableId × Seat ℕ) (stamp : Option (TableId × Seat ℕ)) (seats : AreSeats phase number table here port turns stamp) where
@@ -110,9 +49,6 @@ module _ {J : Type 0} (verdict : J → Net → Route → Verdict) (phase : Phase
 
     family_is : port.1.seen.terms.opening.family ≡ table.family
     family_is = ap (λ z. z.family) opening_is ∙ seats.begins.family
-
-    own_is : IsOwnPort (number_of port.1.role) here.1.opening
-    own_is = subst (λ z. IsOwnPort z here.1.opening) (sym seats.port_number) seats.own_port
 
     terms_are : AreTerms (import_terms phase number port turns stamp) source
     terms_are = record {

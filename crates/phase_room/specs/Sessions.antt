@@ -1,11 +1,11 @@
--- Protocols with routes of their own in a room (`IsRoom`): a session is its protocol's, of the phase,
--- over its table, and its channel, where it has one, has the one table and the one list of marks. A
--- room as actors know it has its journals alone (`room_seen`).
+-- Protocols with routes of their own in a room (`IsSession`): a session is its protocol's, of the
+-- phase, over its table, and its channel, where it has one, has the one table and the one list of
+-- marks.
 -- Not modelled: pipes.
 -- From: own.
 -- Example: the room of a phase of one BGP protocol over one table has one session, whose table is the
 -- first.
-use Rattle.std.specs.Prelude.{◌≡◌, ℕ, List, map, Option, Some, None, option_map, slice_get, ⊤}
+use Rattle.std.specs.Prelude.{◌≡◌, ℕ, List, Option, Some, None, option_map, slice_get, ⊤}
 use Rattle.atomic_table.specs.Seated.{TableId}
 use Rattle.attrs.specs.declared.judge.Verdict.{Verdict}
 use Rattle.attrs.specs.declared.route.Route.{Route}
@@ -14,7 +14,6 @@ use Rattle.core_setup.specs.Protocols.{rules_of}
 use Rattle.core_setup.specs.Setup.{Exports}
 use Rattle.jour_rule.specs.declared.views.Terms.{Terms}
 use Rattle.table_shared.specs.Opening.{TableOpening}
-use Rattle.phase_legal.specs.Shown.{Room as Journals}
 use Rattle.import_lock.specs.Locks.{terms_of}
 use Rattle.import_lock.specs.Terms.{ImportTerms, PhaseTerms}
 use Rattle.export_lock.specs.Kept.{IsExports}
@@ -23,7 +22,6 @@ use Rattle.export_lock.specs.Terms.{ExportTerms}
 use Rattle.export_lock.specs.declared.key.ExportKey.{ExportKey}
 use Rattle.export_lock.specs.declared.state.ExportState.{ExportState}
 use Rattle.phase_room.specs.Together.{AreTogether}
-use Rattle.phase_room.specs.declared.room.Room.{Room}
 use Rattle.phase_room.specs.declared.session.Session.{Session}
 
 -- the channel of a protocol, where it has one
@@ -47,23 +45,6 @@ module _ {J P : Type 0} where
 
   abbrev pub channel_terms : (P → ℕ → Exports) → Session J P → Option ExportTerms
   channel_terms exports session = option_map (λ lock. export_terms_of exports lock.1) session.export
-
-  -- the room's journals, and the phase's lines and turns before it
-  abbrev pub room_seen : (P → PhaseTerms) → Room J P → Journals
-  room_seen terms room = record {
-    rules = rules_of (terms room.played.value).setup;
-    lines = (terms room.played.value).lines;
-    past = (terms room.played.value).past;
-    turns = map (λ session. (protocol_terms terms session).turns) room.sessions.items;
-    ports = map (λ session. (protocol_terms terms session).port_number) room.sessions.items;
-    tables = room.tables.items;
-  }
-
-  abbrev pub IsRoom : (P → PhaseTerms) → (P → ℕ → Exports) → Room J P → Type 0
-  IsRoom terms exports room =
-      (number : ℕ) (session : Session J P) → slice_get room.sessions.items number ≡ Some session
-      → IsSession (terms room.played.value) room.tables.items number session.table
-      (protocol_terms terms session) (channel_terms exports session)
 
 -- what lay under a channel's lock as the phase ended, where there is a channel
 abbrev pub AreClosed :

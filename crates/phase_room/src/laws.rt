@@ -1,5 +1,5 @@
 //! Laws of what a phase begins with.
-ghost use Rattle.std.specs.Prelude.{◌≡◌, ℕ, Bool, List, [], Option, Some, reverse, slice_get};
+ghost use Rattle.std.specs.Prelude.{◌≡◌, ℕ, Bool, List, Option, Some, reverse};
 ghost use Rattle.atomic_table.specs.Seated.{TableId};
 ghost use Rattle.bits_ip.specs.declared.address.Family.{Family};
 ghost use Rattle.export_core.specs.Standing.{is_open};
@@ -12,23 +12,14 @@ ghost use Rattle.core_machine.specs.Lines.{Line};
 ghost use Rattle.core_setup.specs.Protocols.{protocol_at};
 ghost use Rattle.core_setup.specs.Setup.{Exports, IsSetup, IsSource, Protocol, Setup, Source, family_at};
 ghost use Rattle.table_shared.specs.Opening.{TableOpening};
-ghost use Rattle.phase_legal.specs.Shown.{HandView, IsActing, PassView};
 ghost use Rattle.import_lock.specs.Terms.{PhaseTerms};
-ghost use Rattle.phase_room.specs.Begun.{IsBegun};
 ghost use Rattle.phase_room.specs.First.{first_phase, new_exporter, new_importer, nothing_in, smallest, two_neighbours};
 ghost use Rattle.phase_room.specs.Locks.{CanExport, CanImport, export_terms, import_terms};
-ghost use Rattle.phase_room.specs.Opened.{AreOfEach, IsPassOf};
-ghost use Rattle.phase_room.specs.Rooms.{BeginsTable, IsOwnPort, TableTerms, table_terms};
-ghost use Rattle.phase_room.specs.Sessions.{room_seen};
+ghost use Rattle.phase_room.specs.Rooms.{TableTerms};
 ghost use Rattle.phase_room.specs.Stands.{AreChannelSeats, AreSeats, StandsChannel, StandsSource, StandsTable};
 ghost use Rattle.phase_room.specs.Together.{AreTogether};
-ghost use Rattle.phase_room.specs.declared.begun.Begun.{Begun as BegunView};
-ghost use Rattle.std.specs.declared.alloc.Global.{Global};
-ghost use Rattle.std.specs.declared.vec.Vec.{Vec};
 
 use attrs::Judge;
-use export_lock::Sends;
-use import_lock::Phase;
 
 /// What stands of a protocol with routes of its own, with the seats that it is given, is all that
 /// its lock begins with.
@@ -62,16 +53,6 @@ pub fn channels_can_begin<J: Judge>()
         (export_terms exports cursor table.before marks (reverse exporter.log)) }
 {}
 
-/// The journal of a table that has no pipes begins with what stands there, and each protocol that
-/// imports to the table has its port alone.
-pub fn tables_begin_with_what_stands<J: Judge>()
-    ensures begins { (setup : Setup) (number : ℕ) (table : TableTerms)
-        → BeginsTable table (table_terms setup number table) }
-    ensures own_port { (phase : PhaseTerms) (number : ℕ) (source : Source) (table : TableTerms)
-        (importer : Importing J) → StandsSource J.verdict phase number source table importer
-        → IsOwnPort number (table_terms phase.setup source.table table).opening }
-{}
-
 /// In the first phase of each setup all stands that a phase begins with: tables are empty, and
 /// importers and exporters are as they are made.
 pub fn first_phases_stand<J: Judge>()
@@ -93,15 +74,4 @@ pub fn first_phases_stand<J: Judge>()
         (nothing_in family) (new_exporter exports.spec judge) }
     ensures worked { (judge : J) → IsSetup (smallest (J.verdict judge))
         × IsSetup (two_neighbours (J.verdict judge)) }
-{}
-
-/// As a room begins each actor, with its hands of the room's protocols and a pass of each table, has
-/// done none of its lines.
-pub fn actors_can_begin<J: Judge + Drop, P: Phase + Sends>()
-    ensures { (begun : BegunView J P) (passes : List (Vec PassView Global))
-        → IsBegun P.terms P.exports begun
-        → AreOfEach IsPassOf begun.room.tables.items passes
-        → (actor : ℕ) (mine : Vec HandView Global) (shown : Vec PassView Global)
-        → slice_get begun.hands.items actor ≡ Some mine → slice_get passes actor ≡ Some shown
-        → IsActing (room_seen P.terms begun.room) actor [] mine.items shown.items }
 {}

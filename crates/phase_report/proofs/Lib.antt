@@ -1,4 +1,0 @@
-pub mod Looping
-pub mod Serving
-pub mod Written
-pub mod Following

@@ -1,6 +1,0 @@
-use Rattle.std.proofs.Common.{take}
-use Rattle.phase_report.specs.Inside.{IsExportOf, Serves}
-use Rattle.phase_report.proofs.exports.report_exports.Given as goal
-
-abbrev pub invariant-loop-number : goal.invariant-loop-number
-invariant-loop-number g l = Serves (IsExportOf l.names) (take l.number l.sessions) l.reports

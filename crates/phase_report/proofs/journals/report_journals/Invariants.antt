@@ -1,6 +1,0 @@
-use Rattle.std.proofs.Common.{take}
-use Rattle.phase_report.specs.Inside.{Reports, journal_of}
-use Rattle.phase_report.proofs.journals.report_journals.Given as goal
-
-abbrev pub invariant-loop-number : goal.invariant-loop-number
-invariant-loop-number l = Reports (journal_of l.tables) (take l.number l.phases) l.reports

@@ -1,6 +1,0 @@
-use Rattle.std.proofs.Common.{◌≡◌, ◌++◌, map, take}
-use Rattle.phase_report.specs.Inside.{reply_of}
-use Rattle.phase_report.proofs.replies.add_replies.Given as goal
-
-abbrev pub invariant-loop-reply : goal.invariant-loop-reply
-invariant-loop-reply l = l.reports ≡ l.fn.reports ++ map (reply_of l.tables l.actor) (take l.reply-index l.replies)

@@ -1,4 +1,0 @@
-mod Starters
-mod Seats
-mod Rooms
-mod Sharing

@@ -1,4 +1,0 @@
-use Rattle.phase_run.proofs.dealing.Dealt.deal_one.Goals as goal
-
-pub returns : goal.returns
-returns c = (c.in_ok-check_done.ensures, c.in_ok-deal_actor.ensures)

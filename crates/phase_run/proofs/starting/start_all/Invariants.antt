@@ -1,9 +1,0 @@
-use Rattle.std.proofs.Common.{take}
-use Rattle.phase_run.specs.Inside.{AreStartSeats, HaveStarted}
-use Rattle.phase_run.specs.Played.{starts_of}
-use Rattle.phase_run.proofs.starting.start_all.Given as goal
-
-abbrev pub invariant-loop-index : goal.invariant-loop-index
-invariant-loop-index g l =
-    AreStartSeats g.P.Phase.terms l.room l.starters.items l.passes.items
-    × HaveStarted (g.P.Phase.terms l.room.played.value).starter (starts_of (take l.index l.numbers)) l.starters.items

@@ -1,3 +1,0 @@
-mod Turning
-mod Sessions
-mod Synced

@@ -1,2 +1,0 @@
-pub mod Synced
-pub mod Inside

@@ -1,2 +1,0 @@
-pub mod Acted
-pub mod Started
