@@ -12,26 +12,21 @@ use std::alloc::Global;
 use std::sync::{Mutex, Wait};
 use table_shared::TableCursor;
 
-/// Who reads a table for a member, which has this number in its room.
+/// Which of a member's channels reads.
 #[derive(Clone, Copy, Debug, PartialEq, Eq, Drop)]
-pub enum Reader {
-    /// The channel of a protocol with routes of its own.
-    Own(usize),
-    /// The direction out of a pipe.
-    Out(usize),
+pub enum Way {
+    /// The channel of a protocol with routes of its own, or the direction out of a pipe.
+    Out,
     /// The direction back of a pipe.
-    Back(usize),
+    Back,
 }
 
-impl Reader {
-    /// The number of the member that it reads for.
-    pub(crate) fn member(self) -> usize {
-        match self {
-            Reader::Own(member) => member,
-            Reader::Out(member) => member,
-            Reader::Back(member) => member,
-        }
-    }
+/// Who reads a table for a member of a room.
+#[derive(Clone, Copy, Debug, PartialEq, Eq, Drop)]
+pub struct Reader {
+    /// The number of the member.
+    pub member: usize,
+    pub way: Way,
 }
 
 /// By the numbers of channels, which are also those of their cursors, who reads by them, and the
@@ -60,10 +55,10 @@ fn lane_number_of<R: Wait, J: Judge + Drop, P: Sends>(rt: &R, lock: &LaneLock<J,
     number
 }
 
-/// Notes who reads by the cursor of a number.
-fn note(readers: &mut Vec<Option<Reader>>, number: usize, reader: Reader) {
+/// Notes for which member, by which of its channels, is read by the cursor of a number.
+fn note(readers: &mut Vec<Option<Reader>>, number: usize, member: usize, way: Way) {
     if let Some(place) = readers.get_mut(number) {
-        *place = Some(reader);
+        *place = Some(Reader { member, way });
     }
 }
 
@@ -75,7 +70,7 @@ fn note_own<R: Wait, J: Judge + Drop, P: Phase + Sends>(
     readers: &mut Vec<Option<Reader>>,
 ) {
     if let Some(channel) = &session.export {
-        note(readers, number_of(rt, channel), Reader::Own(member));
+        note(readers, number_of(rt, channel), member, Way::Out);
     }
 }
 
@@ -86,12 +81,8 @@ fn note_pipe<R: Wait, J: Judge + Drop, P: Phase + Sends>(
     member: usize,
     readers: &mut Vec<Option<Reader>>,
 ) {
-    note(readers, lane_number_of(rt, &pipe.out), Reader::Out(member));
-    note(
-        readers,
-        lane_number_of(rt, &pipe.back),
-        Reader::Back(member),
-    );
+    note(readers, lane_number_of(rt, &pipe.out), member, Way::Out);
+    note(readers, lane_number_of(rt, &pipe.back), member, Way::Back);
 }
 
 /// The same of all members.

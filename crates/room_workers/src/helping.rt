@@ -1,5 +1,5 @@
 //! How those who write a table have its cursors read on.
-use crate::channels::{Channels, Reader};
+use crate::channels::{Channels, Way};
 use attrs::Judge;
 use channel_turns::help_channel;
 use export_lock::Sends;
@@ -22,17 +22,16 @@ fn help_own<R: Wait, J: Judge + Drop, P: Phase + Sends>(
     }
 }
 
-/// Has the direction of a pipe that the reader names take an entry.
+/// Has a direction of a pipe take an entry.
 fn help_pipe<R: Wait, J: Judge + Drop, P: Phase + Sends>(
     alloc: Global,
     rt: &R,
     pipe: &PipeSession<J, P>,
-    reader: Reader,
+    way: Way,
 ) {
-    match reader {
-        Reader::Own(_) => {}
-        Reader::Out(_) => help_lane(alloc, rt, &pipe.out),
-        Reader::Back(_) => help_lane(alloc, rt, &pipe.back),
+    match way {
+        Way::Out => help_lane(alloc, rt, &pipe.out),
+        Way::Back => help_lane(alloc, rt, &pipe.back),
     }
 }
 
@@ -55,12 +54,12 @@ impl<J: Judge + Drop, P: Phase + Sends> Helper for Help<'_, J, P> {
         let Some(reader) = self.channels.reader(number) else {
             return;
         };
-        let Some(member) = self.room.members.get(reader.member()) else {
+        let Some(member) = self.room.members.get(reader.member) else {
             return;
         };
         match member {
             Member::Own(session) => help_own(self.alloc, rt, session),
-            Member::Pipe(pipe) => help_pipe(self.alloc, rt, pipe, reader),
+            Member::Pipe(pipe) => help_pipe(self.alloc, rt, pipe, reader.way),
         }
     }
 }

@@ -3,7 +3,7 @@ ghost use Rattle.std.specs.Prelude.{◌≡◌, ℕ, Some, slice_get};
 ghost use Rattle.room_members.specs.Members.{IsRoom};
 ghost use Rattle.room_members.specs.declared.member.Member.TheVariants.{Own, Pipe};
 
-use crate::channels::{Channels, Reader};
+use crate::channels::{Channels, Reader, Way};
 use crate::helping::Help;
 use crate::lanes::{serve_back, serve_out};
 use attrs::Judge;
@@ -48,7 +48,7 @@ fn serve_own<R: Wait, G: Gate, J: Judge + Drop, P: Phase + Sends>(
     }
 }
 
-/// The same of the direction of a pipe that the reader names.
+/// The same of a direction of a pipe.
 fn serve_pipe<R: Wait, G: Gate, H: Helper, J: Judge + Drop, P: Phase + Sends>(
     alloc: Global,
     rt: &R,
@@ -56,15 +56,14 @@ fn serve_pipe<R: Wait, G: Gate, H: Helper, J: Judge + Drop, P: Phase + Sends>(
     helper: &H,
     room: &Room<J, P>,
     pipe: &PipeSession<J, P>,
-    reader: Reader,
+    way: Way,
 ) -> Result<bool, OpFault>
     requires room { IsRoom P.terms P.exports P.rules room.now }
     requires there { (number : ℕ) × (slice_get room.now.members.items number ≡ Some (Pipe pipe.now)) }
 {
-    match reader {
-        Reader::Own(_) => Ok(false),
-        Reader::Out(_) => serve_out(alloc, rt, gate, helper, room, pipe),
-        Reader::Back(_) => serve_back(alloc, rt, gate, helper, room, pipe),
+    match way {
+        Way::Out => serve_out(alloc, rt, gate, helper, room, pipe),
+        Way::Back => serve_back(alloc, rt, gate, helper, room, pipe),
     }
 }
 
@@ -79,13 +78,13 @@ fn serve_reader<R: Wait, G: Gate, H: Helper, J: Judge + Drop, P: Phase + Sends>(
 ) -> Result<bool, OpFault>
     requires room { IsRoom P.terms P.exports P.rules room.now }
 {
-    let number = reader.member();
+    let number = reader.member;
     if number >= room.members.len() {
         return Ok(false);
     }
     match &room.members[number] {
         Member::Own(session) => serve_own(alloc, rt, gate, room, session),
-        Member::Pipe(pipe) => serve_pipe(alloc, rt, gate, helper, room, pipe, reader),
+        Member::Pipe(pipe) => serve_pipe(alloc, rt, gate, helper, room, pipe, reader.way),
     }
 }
 
