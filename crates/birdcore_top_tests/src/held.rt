@@ -12,6 +12,10 @@ use std::thread::{Threads, yield_now};
 const CONF: &str =
     "protocol bgp p1 { local as 65000; neighbor 192.0.2.1 as 65001; med metric on;\n  ipv4 { import all; export all; }; }\nprotocol bgp p2 { local as 65000; neighbor 192.0.2.2 as 65002; med metric on;\n  ipv4 { import all; export all; }; }\n";
 
+/// The same, each over a table of its own, with a pipe between the two.
+const PIPED: &str =
+    "ipv4 table t;\nprotocol bgp p1 { local as 65000; neighbor 192.0.2.1 as 65001; med metric on;\n  ipv4 { import all; export all; }; }\nprotocol pipe k { peer table t; import all; export all; }\nprotocol bgp p2 { local as 65000; neighbor 192.0.2.2 as 65002; med metric on;\n  ipv4 { table t; import all; export all; }; }\n";
+
 /// In its second phase the one announces two nets.
 const SCRIPT: &str =
     "@p1 open 10.0.0.1\n@p2 open 10.0.0.2\nsync\n@p1 add 203.0.113.0/24 via 192.0.2.1 path 65001 origin igp\n@p1 add 198.51.100.0/24 via 192.0.2.1 path 65001 origin igp\n";
@@ -20,8 +24,9 @@ const SCRIPT: &str =
 const TURNS: u32 = 10_000_000;
 
 /// Holds the second update, which has its table's lock, until entries were taken three times. Of the
-/// first update's entry two channels make two takes, so a take that waits for that lock, or for the
-/// thread that updates, makes the gate give up.
+/// first update's entry two channels make two takes, a pipe's direction for one, so a take that waits
+/// for that lock, or for the thread that updates, makes the gate give up. Where one thread does all
+/// lines, no update is held.
 #[derive(Drop)]
 struct HoldGate {
     updates: AtomicU64,
@@ -63,15 +68,16 @@ impl Gate for HoldGate {
     }
 }
 
-/// Runs the script with these words past a new gate.
+/// Runs the script over a configuration, with these words past a new gate.
 fn run_held<T: RandomSource + Threads + Wait + Sync>(
     rt: &HostRuntime,
     threads: &T,
+    conf: &str,
     texts: &[&str],
 ) -> Result<(Status, HoldGate), Fail> {
     let alloc = rt.alloc();
     let words = words(alloc, texts)?;
-    let mut shelf = MemShelf::new(alloc, files(alloc, CONF, SCRIPT)?);
+    let mut shelf = MemShelf::new(alloc, files(alloc, conf, SCRIPT)?);
     let mut sink = MemSink::new(alloc);
     let gate = HoldGate::new();
     let status = top(threads, alloc, &words, &mut shelf, &mut sink, &gate);
@@ -80,11 +86,12 @@ fn run_held<T: RandomSource + Threads + Wait + Sync>(
 
 #[test]
 fn channels_take_entries_while_an_update_has_its_table(rt: HostRuntime) -> Result<(), Fail> {
-    for texts in [
-        &["run", "conf", "script"][..],
-        &["run", "conf", "script", "-q"][..],
+    for (conf, texts) in [
+        (CONF, &["run", "conf", "script"][..]),
+        (CONF, &["run", "conf", "script", "-q"][..]),
+        (PIPED, &["run", "conf", "script"][..]),
     ] {
-        let (status, gate) = run_held(&rt, &rt, texts)?;
+        let (status, gate) = run_held(&rt, &rt, conf, texts)?;
         assert_eq!(rt; status, Status::Ok);
         assert!(rt; gate.has_held.load(Ordering::SeqCst));
         assert!(rt; !gate.gave_up.load(Ordering::SeqCst));
