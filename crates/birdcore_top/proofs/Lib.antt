@@ -7,3 +7,4 @@ pub mod Outcomes
 pub mod Decided
 pub mod Owed
 mod Lent
+mod Sure

@@ -14,7 +14,8 @@
 //!
 //! `words` reads the command line, `files` the files, `play` and `run` make of a configuration and a
 //! script what `phases_out` plays or runs, `write` writes what is accepted, `status` is how the program
-//! ends, `laws` what files say. Other laws of `top` stand in the crate `top_laws`.
+//! ends, `laws` what files say; `surely` is `top` over what never fails. Other laws of `top` stand in the
+//! crate `top_laws`.
 #![tactic(auto)]
 
 mod files;
@@ -22,6 +23,7 @@ pub mod laws;
 mod play;
 mod run;
 mod status;
+pub mod surely;
 pub mod top;
 mod words;
 mod write;

@@ -2,6 +2,7 @@ ghost use Rattle.std.specs.Prelude.{[], Some};
 
 use crate::worked::{CONF, REPORT, REPORT_OF_TWO_PHASES, SCRIPT, TWO_PHASES, files, words};
 use birdcore_top::Status;
+use birdcore_top::surely::do_surely;
 use birdcore_top::top::top;
 use outside_io::{Failed, MemShelf, MemSink, OpenGate, Sink, SureShelf};
 use std::io;
@@ -9,7 +10,6 @@ use std::random::RandomSource;
 use std::sync::Wait;
 use std::test::Fail;
 use std::thread::Threads;
-use top_laws::surely::do_surely;
 
 /// The status of the worked run over a shelf whose call of this number fails, what it wrote, and
 /// how often the shelf was called.

@@ -17,10 +17,10 @@ use Rattle.phase_room.specs.declared.session.Session.{Session}
 use Rattle.pipe_close.proofs.Sessions.{is_over}
 use Rattle.pipe_rest.specs.declared.member.MemberLeft.{MemberLeft}
 use Rattle.pipe_rest.specs.declared.member.MemberLeft.TheVariants as lefts
-use Rattle.room_close.specs.Ended.{IsPipeDone, IsSessionDone}
-use Rattle.room_close.specs.Left.{IsMemberLeft, locks_of, session_key}
-use Rattle.room_close.specs.Synced.{IsSynced}
-use Rattle.room_close.specs.declared.ended.RoomEnded.{RoomEnded}
+use Rattle.room_ends.specs.Ended.{IsPipeDone, IsSessionDone}
+use Rattle.room_ends.specs.Left.{IsMemberLeft, locks_of, session_key}
+use Rattle.room_ends.specs.Synced.{IsSynced}
+use Rattle.room_ends.specs.declared.ended.RoomEnded.{RoomEnded}
 use Rattle.room_close.proofs.Recorded.{pipe_has_ended, session_done}
 use Rattle.room_members.specs.Members.{IsRoom}
 use Rattle.room_members.specs.declared.member.Member.{Member}

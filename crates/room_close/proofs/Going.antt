@@ -18,7 +18,7 @@ use Rattle.pipe_rest.specs.Later.{CanSettle, IsLaterMember}
 use Rattle.pipe_rest.specs.declared.member.MemberLeft.{MemberLeft}
 use Rattle.pipe_rest.specs.declared.member.MemberLeft.TheVariants.{Own, Pipe}
 use Rattle.pipe_rest.proofs.Goes.{member_can}
-use Rattle.room_close.specs.Ended.{CanEndMember}
+use Rattle.room_ends.specs.Ended.{CanEndMember}
 use Rattle.table_shared.specs.Opening.{TableOpening}
 
 module _ {J : Type 0} (verdict : J → Net → Route → Verdict) (tables : List (TableId × Terms TableOpening)) (sources : List Src) where

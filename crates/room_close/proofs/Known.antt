@@ -25,7 +25,7 @@ use Rattle.pipe_rest.specs.Later.{CanSettle, IsLaterMember}
 use Rattle.pipe_rest.specs.declared.member.MemberLeft.{MemberLeft}
 use Rattle.pipe_rest.specs.declared.member.MemberLeft.TheVariants as lefts
 use Rattle.pipe_rest.proofs.Goes.{pipe_left}
-use Rattle.room_close.specs.Left.{AreHandsOf, AreMembersLeft, IsMemberLeft, locks_of, session_key}
+use Rattle.room_ends.specs.Left.{AreHandsOf, AreMembersLeft, IsMemberLeft, locks_of, session_key}
 use Rattle.room_members.specs.Members.{IsMember, IsRoom}
 use Rattle.room_members.specs.declared.member.Member.{Member}
 use Rattle.room_members.specs.declared.member.Member.TheVariants as members

@@ -11,7 +11,7 @@ use Rattle.import_lock.specs.Terms.{PhaseTerms}
 use Rattle.phase_close.specs.Rooms.{HandsView}
 use Rattle.phase_close.proofs.Besides.{each_more, one_more}
 use Rattle.pipe_rest.specs.declared.member.MemberLeft.{MemberLeft}
-use Rattle.room_close.specs.Left.{AreMembersLeft, IsMemberLeft}
+use Rattle.room_ends.specs.Left.{AreMembersLeft, IsMemberLeft}
 use Rattle.room_members.specs.declared.member.Member.{Member}
 
 module _ {J P : Type 0} (terms : P → PhaseTerms) (exports : P → ℕ → Exports) (rules : P → Rules) (verdict : J → Net → Route → Verdict) (hands : List HandsView) where

@@ -19,7 +19,7 @@ use Rattle.phase_room.specs.Sessions.{channel_terms, protocol_terms}
 use Rattle.phase_room.specs.declared.session.Session.{Session}
 use Rattle.pipe_close.specs.Left.{IsClosing, IsPipeLeft, PipeLocks}
 use Rattle.pipe_close.specs.declared.close.PipeLeft.{PipeLeft}
-use Rattle.room_close.specs.Left.{IsPipeLeftOf, locks_of}
+use Rattle.room_ends.specs.Left.{IsPipeLeftOf, locks_of}
 
 module _ {J P : Type 0} (terms : P → PhaseTerms) (exports : P → ℕ → Exports) (rules : P → Rules) (verdict : J → Net → Route → Verdict) (hands : HandsView) where
   pub own_left : (session : Session J P) (result : Result (SessionLeft J) OpFault) → IfOk result (λ (left : SessionLeft J). left.table ≡ session.table)

@@ -45,13 +45,13 @@ use Rattle.pipe_rest.specs.Heads.{AreHeads, HasRead, HasReadOf, IsBelow as IsBel
 use Rattle.pipe_rest.specs.declared.member.MemberLeft.{MemberLeft}
 use Rattle.pipe_rest.specs.declared.member.MemberLeft.TheVariants as lefts
 use Rattle.pipe_turns.specs.Ends.{AreBelow, IsBelow}
-use Rattle.room_close.specs.Ended.{EndsMember, IsRoomEnded}
+use Rattle.room_ends.specs.Ended.{EndsMember, IsRoomEnded}
 use Rattle.room_close.specs.Inside.{EndsAtRest}
-use Rattle.room_close.specs.Left.{AreHandsOf, AreMembersLeft, IsMemberLeft, IsPipeLeftOf}
-use Rattle.room_close.specs.Synced.{IsSettled, IsSettledMember, IsSynced, end_of}
-use Rattle.room_close.specs.declared.ended.MemberEnded.{MemberEnded}
-use Rattle.room_close.specs.declared.ended.MemberEnded.TheVariants as ends
-use Rattle.room_close.specs.declared.ended.RoomEnded.{RoomEnded}
+use Rattle.room_ends.specs.Left.{AreHandsOf, AreMembersLeft, IsMemberLeft, IsPipeLeftOf}
+use Rattle.room_ends.specs.Synced.{IsSettled, IsSettledMember, IsSynced, end_of}
+use Rattle.room_ends.specs.declared.ended.MemberEnded.{MemberEnded}
+use Rattle.room_ends.specs.declared.ended.MemberEnded.TheVariants as ends
+use Rattle.room_ends.specs.declared.ended.RoomEnded.{RoomEnded}
 use Rattle.room_close.proofs.Known.{KnowSources, all_are_left}
 use Rattle.room_members.specs.Members.{IsMember, IsRoom}
 use Rattle.room_members.specs.Ports.{HasPorts, Writes}

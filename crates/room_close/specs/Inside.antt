@@ -16,8 +16,8 @@ use Rattle.phase_legal.specs.Shown.{AreBeside}
 use Rattle.pipe_rest.specs.Heads.{AreHeads, HasRead}
 use Rattle.pipe_rest.specs.Later.{IsLaterMember}
 use Rattle.pipe_rest.specs.declared.member.MemberLeft.{MemberLeft}
-use Rattle.room_close.specs.Ended.{IsRoomEnded}
-use Rattle.room_close.specs.declared.ended.RoomEnded.{RoomEnded}
+use Rattle.room_ends.specs.Ended.{IsRoomEnded}
+use Rattle.room_ends.specs.declared.ended.RoomEnded.{RoomEnded}
 use Rattle.table_shared.specs.Opening.{TableOpening}
 
 module _ {J : Type 0} (verdict : J → Net → Route → Verdict) where

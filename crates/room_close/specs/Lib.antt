@@ -1,4 +1,1 @@
-pub mod Left
-pub mod Ended
 pub mod Inside
-pub mod Synced

@@ -6,7 +6,7 @@ ghost use Rattle.jour_rule.specs.declared.views.Terms.{Terms};
 ghost use Rattle.phase_close.specs.Rooms.{IsLeftOf};
 ghost use Rattle.phase_pipes.specs.Sessions.{IsPipeSession, back_terms, out_terms, pipe_terms};
 ghost use Rattle.phase_room.specs.Sessions.{IsChannelOf, channel_terms, protocol_terms};
-ghost use Rattle.room_close.specs.Left.{AreHandsOf, IsMemberLeft, IsPipeLeftOf};
+ghost use Rattle.room_ends.specs.Left.{AreHandsOf, IsMemberLeft, IsPipeLeftOf};
 ghost use Rattle.room_members.specs.Members.{IsMember};
 ghost use Rattle.room_members.specs.declared.member.Member.TheVariants.{Own, Pipe};
 ghost use Rattle.table_shared.specs.Opening.{TableOpening};

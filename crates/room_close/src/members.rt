@@ -4,7 +4,7 @@ ghost use Rattle.atomic_table.specs.Seated.{TableId};
 ghost use Rattle.import_lock.specs.Terms.{PhaseTerms};
 ghost use Rattle.jour_rule.specs.declared.views.Terms.{Terms};
 ghost use Rattle.phase_close.specs.Rooms.{AreOthers};
-ghost use Rattle.room_close.specs.Left.{AreHandsOf, AreMembersLeft, CanClose, IsMemberLeft};
+ghost use Rattle.room_ends.specs.Left.{AreHandsOf, AreMembersLeft, CanClose, IsMemberLeft};
 ghost use Rattle.room_members.specs.Members.{IsMember};
 ghost use Rattle.table_shared.specs.Opening.{TableOpening};
 

@@ -3,14 +3,14 @@ ghost use Rattle.std.specs.Prelude.{◌≡◌, IfOk};
 ghost use Rattle.std.specs.List.{AllByRecursion};
 ghost use Rattle.phase_close.specs.Closed.{all_lists};
 ghost use Rattle.phase_legal.specs.Shown.{AreBeside};
-ghost use Rattle.room_close.specs.Ended.{CanEndMember, EndsMember};
+ghost use Rattle.room_ends.specs.Ended.{CanEndMember, EndsMember};
 
-use crate::ended::MemberEnded;
 use attrs::Judge;
 use bits_ip::OutOfMemory;
 use phase_close::end_session_at;
 use pipe_close::end_pipe;
 use pipe_rest::MemberLeft;
+use room_ends::MemberEnded;
 use std::alloc::Global;
 use table_shared::Closing;
 

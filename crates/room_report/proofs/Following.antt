@@ -15,13 +15,13 @@ use Rattle.sys_run.specs.declared.parts.TableParts.{TableParts}
 use Rattle.table_shared.specs.declared.close.Phase.{Phase}
 use Rattle.phase_open.specs.declared.standing.StandingChannel.{StandingChannel}
 use Rattle.phase_open.specs.declared.standing.StandingTable.{StandingTable}
-use Rattle.room_close.specs.declared.ended.MemberEnded.{MemberEnded}
-use Rattle.room_close.specs.declared.ended.MemberEnded.TheVariants as ended
+use Rattle.room_ends.specs.declared.ended.MemberEnded.{MemberEnded}
+use Rattle.room_ends.specs.declared.ended.MemberEnded.TheVariants as ended
 use Rattle.room_open.specs.declared.standing.Standing.{Standing}
 use Rattle.room_open.specs.declared.standing.StandingMember.{StandingMember}
 use Rattle.room_open.specs.declared.standing.StandingMember.TheVariants as standing
-use Rattle.room_run.specs.declared.played.PlayedRoom.{PlayedRoom}
-use Rattle.room_whole.specs.After.{IsChannelAfter, IsMemberAfter, IsMemberOver, StandsAfter}
+use Rattle.room_ends.specs.declared.played.PlayedRoom.{PlayedRoom}
+use Rattle.room_ends.specs.After.{IsChannelAfter, IsMemberAfter, IsMemberOver, StandsAfter}
 use Rattle.room_report.specs.Behind.{IsPlayedOver, numbers_in}
 use Rattle.room_report.specs.Inside.{IsMemberBehind, IsTableBehind, IsTableOf, channel_of, list_in, member_behind, numbers_or_none}
 use Rattle.room_report.specs.declared.numbers.ChannelNumbers.{ChannelNumbers}

@@ -10,7 +10,7 @@ use Rattle.core_setup.specs.Pairs.{Pairs}
 use Rattle.core_setup.proofs.PairLemmas.{length_front, pairs_end, pairs_length, pairs_push, pairs_turn, take_one_more}
 use Rattle.sys_run.specs.declared.parts.TableParts.{TableParts}
 use Rattle.phase_actors.specs.declared.actor.Told.{Told}
-use Rattle.room_close.specs.declared.ended.MemberEnded.{MemberEnded}
+use Rattle.room_ends.specs.declared.ended.MemberEnded.{MemberEnded}
 use Rattle.room_report.specs.Inside.{Adds, Reports, Served, Serves, all_lengths, lengths_in, name_or_none, replies_told, reply_of, served, served_in}
 
 -- an item that a loop over a slice reads

@@ -14,9 +14,9 @@ use Rattle.core_setup.specs.Setup.{Exports, Pipe as PlayedPipe, Protocol, Setup}
 use Rattle.core_setup.proofs.Numbered.{itself_is}
 use Rattle.phase_close.specs.declared.seats.SessionEnded.{SessionEnded}
 use Rattle.pipe_close.specs.declared.end.PipeEnded.{PipeEnded}
-use Rattle.room_close.specs.declared.ended.MemberEnded.{MemberEnded}
-use Rattle.room_close.specs.declared.ended.MemberEnded.TheVariants.{Own, Pipe}
-use Rattle.room_whole.specs.Prints.{PrintsChannel, PrintsMember, PrintsPipe, PrintsSession}
+use Rattle.room_ends.specs.declared.ended.MemberEnded.{MemberEnded}
+use Rattle.room_ends.specs.declared.ended.MemberEnded.TheVariants.{Own, Pipe}
+use Rattle.room_ends.specs.Prints.{PrintsChannel, PrintsMember, PrintsPipe, PrintsSession}
 use Rattle.room_report.specs.Described.{IsMemberOf, IsPipeOf, MayStand}
 use Rattle.room_report.specs.Inside.{Served, lane, own_served, pipe_served, served, served_in, text_of, with_target}
 use Rattle.room_report.specs.declared.naming.Way.TheVariants as way

@@ -50,10 +50,10 @@ use Rattle.phase_legal.specs.Turns.{line_at, turn_in}
 use Rattle.phase_actors.specs.Acting as acting
 use Rattle.phase_actors.specs.Texts.{IsAnswer}
 use Rattle.phase_actors.specs.declared.actor.Told.{Told}
-use Rattle.room_close.specs.declared.ended.MemberEnded.{MemberEnded}
-use Rattle.room_close.specs.declared.ended.MemberEnded.TheVariants.{Own, Pipe}
-use Rattle.room_run.specs.declared.played.PlayedRoom.{PlayedRoom}
-use Rattle.room_whole.specs.Prints.{Prints, PrintsMember, PrintsReplies, PrintsText, done_of}
+use Rattle.room_ends.specs.declared.ended.MemberEnded.{MemberEnded}
+use Rattle.room_ends.specs.declared.ended.MemberEnded.TheVariants.{Own, Pipe}
+use Rattle.room_ends.specs.declared.played.PlayedRoom.{PlayedRoom}
+use Rattle.room_ends.specs.Prints.{Prints, PrintsMember, PrintsReplies, PrintsText, done_of}
 use Rattle.room_report.specs.Described.{AreLogged, IsDescribed, IsMemberOf}
 use Rattle.room_report.specs.Inside.{IsExportOf, IsLogOf, Reports, Served, Serves, all_lengths, done_in, journal_of, length_of, line_before, mode_of, name_of, name_or_none, op_in, operations_of, ops_in, own_lengths, own_served, replies_told, reply_of, rows_of, served, state_of, text_of}
 use Rattle.room_report.proofs.Serving.{Fits, channels_fit}

@@ -12,12 +12,12 @@ use Rattle.attrs.specs.declared.journal.JEntry.{JEntry}
 use Rattle.sys_run.specs.declared.parts.TableParts.{TableParts}
 use Rattle.phase_open.specs.declared.standing.StandingChannel.{StandingChannel}
 use Rattle.phase_open.specs.declared.standing.StandingTable.{StandingTable}
-use Rattle.room_close.specs.declared.ended.MemberEnded.{MemberEnded}
+use Rattle.room_ends.specs.declared.ended.MemberEnded.{MemberEnded}
 use Rattle.room_open.specs.declared.standing.Standing.{Standing}
 use Rattle.room_open.specs.declared.standing.StandingMember.{StandingMember}
 use Rattle.room_open.specs.declared.standing.StandingMember.TheVariants.{Own, Pipe}
-use Rattle.room_run.specs.declared.played.PlayedRoom.{PlayedRoom}
-use Rattle.room_whole.specs.After.{IsMemberOver}
+use Rattle.room_ends.specs.declared.played.PlayedRoom.{PlayedRoom}
+use Rattle.room_ends.specs.After.{IsMemberOver}
 use Rattle.room_report.specs.declared.numbers.ChannelNumbers.{ChannelNumbers}
 use Rattle.room_report.specs.declared.numbers.ChannelNumbers.TheVariants as kinds
 

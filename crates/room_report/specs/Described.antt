@@ -16,9 +16,9 @@ use Rattle.sys_run.specs.Parts.{table_seen}
 use Rattle.sys_run.specs.declared.parts.TableParts.{TableParts}
 use Rattle.phase_close.specs.declared.seats.SessionEnded.{SessionEnded}
 use Rattle.pipe_close.specs.declared.end.PipeEnded.{PipeEnded}
-use Rattle.room_close.specs.declared.ended.MemberEnded.{MemberEnded}
-use Rattle.room_close.specs.declared.ended.MemberEnded.TheVariants.{Own, Pipe}
-use Rattle.room_run.specs.declared.played.PlayedRoom.{PlayedRoom}
+use Rattle.room_ends.specs.declared.ended.MemberEnded.{MemberEnded}
+use Rattle.room_ends.specs.declared.ended.MemberEnded.TheVariants.{Own, Pipe}
+use Rattle.room_ends.specs.declared.played.PlayedRoom.{PlayedRoom}
 
 -- by channel how many items of its log were printed
 abbrev pub AreLogged : Setup → Joined → List ℕ → Type 0

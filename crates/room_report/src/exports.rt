@@ -11,7 +11,7 @@ use bits_ip::OutOfMemory;
 use export_core::{Exporter, Key};
 use pipe_close::PipeEnded;
 use report::{ExportReport, Standing};
-use room_close::MemberEnded;
+use room_ends::MemberEnded;
 use std::alloc::Global;
 
 pub(crate) fn report_exports<J: Judge>(

@@ -4,7 +4,7 @@ ghost use Rattle.core_machine.specs.Legal.{Joined, Printed, join};
 ghost use Rattle.core_machine.specs.Lines.{Line};
 ghost use Rattle.core_setup.specs.Setup.{Setup};
 ghost use Rattle.sys_run.specs.declared.parts.TableParts.{TableParts};
-ghost use Rattle.room_whole.specs.Prints.{Prints};
+ghost use Rattle.room_ends.specs.Prints.{Prints};
 ghost use Rattle.room_report.specs.Described.{AreLogged, IsDescribed};
 ghost use Rattle.room_report.specs.Inside.{all_lengths, lengths_in, own_lengths, pipe_lengths};
 
@@ -12,8 +12,7 @@ use attrs::Judge;
 use bits_ip::OutOfMemory;
 use export_core::Exporter;
 use pipe_close::PipeEnded;
-use room_close::MemberEnded;
-use room_run::PlayedRoom;
+use room_ends::{MemberEnded, PlayedRoom};
 use std::alloc::Global;
 
 /// By channel how many items its log has behind a phase, which the report of the next phase leaves

@@ -9,7 +9,7 @@ use bits_ip::OutOfMemory;
 use export_core::Exporter;
 use pipe_close::PipeEnded;
 use report::ChannelReport;
-use room_close::MemberEnded;
+use room_ends::MemberEnded;
 use std::alloc::Global;
 
 /// By channel what its log has behind the length of its number.

@@ -6,7 +6,7 @@ use crate::naming::copy_name;
 use attrs::{Judge, Seq};
 use bits_ip::OutOfMemory;
 use report::{ModeReport, ProtocolState};
-use room_close::MemberEnded;
+use room_ends::MemberEnded;
 use std::alloc::Global;
 
 pub(crate) fn report_modes<J: Judge>(

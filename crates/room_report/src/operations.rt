@@ -8,7 +8,7 @@ use bits_ip::OutOfMemory;
 use import_core::{Done, Op};
 use import_lock::OpRecord;
 use report::ProtocolReport;
-use room_close::MemberEnded;
+use room_ends::MemberEnded;
 use script_lines::Line;
 use std::alloc::Global;
 

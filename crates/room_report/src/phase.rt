@@ -3,7 +3,7 @@ ghost use Rattle.std.specs.Prelude.{IfOk, map};
 ghost use Rattle.core_machine.specs.Legal.{Joined, Printed};
 ghost use Rattle.core_setup.specs.Reports.{IsReport};
 ghost use Rattle.core_setup.specs.Setup.{Setup};
-ghost use Rattle.room_whole.specs.Prints.{Prints};
+ghost use Rattle.room_ends.specs.Prints.{Prints};
 ghost use Rattle.room_report.specs.Described.{IsDescribed};
 ghost use Rattle.sys_run.specs.Scripts.{line_of};
 
@@ -17,7 +17,7 @@ use crate::rows::report_rows;
 use attrs::{Judge, Seq};
 use bits_ip::OutOfMemory;
 use report::PhaseReport;
-use room_run::PlayedRoom;
+use room_ends::PlayedRoom;
 use script_lines::{Line, Name};
 use std::alloc::Global;
 use sys_run::TableParts;

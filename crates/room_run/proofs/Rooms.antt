@@ -35,10 +35,10 @@ use Rattle.room_open.specs.Opening.{IsOpenMember, IsOpening}
 use Rattle.room_open.specs.declared.opening.Opening.{Opening}
 use Rattle.room_open.specs.declared.standing.StandingMember.{StandingMember}
 use Rattle.room_open.specs.declared.standing.StandingMember.TheVariants.{Own, Pipe}
-use Rattle.room_close.specs.declared.ended.RoomEnded.{RoomEnded}
-use Rattle.room_close.specs.Synced.{IsSynced}
+use Rattle.room_ends.specs.declared.ended.RoomEnded.{RoomEnded}
+use Rattle.room_ends.specs.Synced.{IsSynced}
 use Rattle.room_run.specs.Inside.{AreAmong, AreDealt, AreStartSeats, CanAct, HaveAllActed, HaveStarted, actor_of}
-use Rattle.room_run.specs.Played.{IsPlayed, starts_of}
+use Rattle.room_ends.specs.Played.{IsPlayed, starts_of}
 use Rattle.room_run.specs.declared.dealing.Dealt.{Dealt}
 
 -- ---- as the phase begins

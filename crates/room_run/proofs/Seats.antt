@@ -18,12 +18,12 @@ use Rattle.room_threads.specs.Acted.{HasActed}
 use Rattle.room_threads.specs.declared.actor.Acted.{Acted}
 use Rattle.phase_close.specs.Rooms.{HandsView}
 use Rattle.phase_close.specs.Whole.{ArePassesOf, PassesView}
-use Rattle.room_close.specs.Left.{AreHandsOf}
+use Rattle.room_ends.specs.Left.{AreHandsOf}
 use Rattle.room_members.specs.Members.{room_seen, turns_of}
 use Rattle.room_members.specs.declared.member.Member.{Member}
 use Rattle.room_members.specs.declared.room.Room.{Room}
 use Rattle.room_run.specs.Inside.{AreAmong, AreDealt, AreStartSeats, Deals, DealsActor, IsDealt, actor_of, replies_in}
-use Rattle.room_run.specs.Played.{HasItem}
+use Rattle.room_ends.specs.Played.{HasItem}
 use Rattle.room_run.specs.declared.dealing.Dealt.{Dealt}
 
 -- ---- lists

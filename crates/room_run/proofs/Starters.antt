@@ -28,7 +28,7 @@ use Rattle.room_members.specs.declared.member.Member.{Member}
 use Rattle.room_members.specs.declared.member.Member.TheVariants.{Own, Pipe}
 use Rattle.room_members.specs.declared.room.Room.{Room}
 use Rattle.room_run.specs.Inside.{AreStartSeats, HaveStarted, IsFirst, IsStarter}
-use Rattle.room_run.specs.Played.{HasStarted, start_act, starts_of}
+use Rattle.room_ends.specs.Played.{HasStarted, start_act, starts_of}
 
 -- ---- a hand that has seen one turn
 

@@ -26,10 +26,10 @@ use Rattle.room_threads.specs.Acted.{HasActed, IsReady}
 use Rattle.room_threads.specs.declared.actor.Acted.{Acted}
 use Rattle.phase_close.specs.Rooms.{HandsView}
 use Rattle.phase_close.specs.Whole.{ArePassesOf, PassesView}
-use Rattle.room_close.specs.Left.{AreHandsOf}
+use Rattle.room_ends.specs.Left.{AreHandsOf}
 use Rattle.room_members.specs.Members.{room_seen}
 use Rattle.room_members.specs.declared.room.Room.{Room}
-use Rattle.room_run.specs.Played.{HasItem, HasStarted}
+use Rattle.room_ends.specs.Played.{HasItem, HasStarted}
 use Rattle.room_run.specs.declared.dealing.Dealt.{Dealt}
 
 -- ---- starts

@@ -4,9 +4,9 @@ ghost use Rattle.std.specs.Prelude.{◌≡◌, ◌≢◌, ◌<◌, ℕ, Err, [],
 ghost use Rattle.std.specs.List.{All};
 ghost use Rattle.room_members.specs.Members.{IsRoom};
 ghost use Rattle.room_run.specs.Inside.{AreStartSeats, CanAct, HaveAllActed, HaveStarted};
-ghost use Rattle.room_run.specs.Played.{starts_of};
+ghost use Rattle.room_ends.specs.Played.{starts_of};
 
-use crate::played::PlayFault;
+use crate::fault::PlayFault;
 use crate::starting::start_all;
 use attrs::Judge;
 use bits_ip::OutOfMemory;

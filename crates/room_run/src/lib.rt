@@ -3,14 +3,14 @@
 //! (`room_close`).
 //!
 //! `starting` has the starts, `acting` the starts and then the threads, `dealing` gathers the seats
-//! of all by protocol and by actor, `playing` has the whole, and `played` what comes of it.
+//! of all by protocol and by actor, and `playing` has the whole; what comes of it is room_ends'.
 #![tactic(auto)]
 
 mod acting;
 mod dealing;
-mod played;
+mod fault;
 mod playing;
 mod starting;
 
-pub use played::{PlayFault, PlayedRoom};
+pub use fault::PlayFault;
 pub use playing::play_room;

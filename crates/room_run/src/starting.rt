@@ -8,9 +8,9 @@ ghost use Rattle.phase_legal.specs.Shown.{AreGrown};
 ghost use Rattle.phase_legal.specs.Turns.{turn_words, words_in};
 ghost use Rattle.room_members.specs.Members.{ArePasses, IsRoom, room_seen};
 ghost use Rattle.room_run.specs.Inside.{AreStartSeats, HaveStarted, IsFirst};
-ghost use Rattle.room_run.specs.Played.{start_act, starts_of};
+ghost use Rattle.room_ends.specs.Played.{start_act, starts_of};
 
-use crate::played::PlayFault;
+use crate::fault::PlayFault;
 use attrs::Judge;
 use export_lock::Sends;
 use import_core::Op;

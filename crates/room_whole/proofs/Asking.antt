@@ -11,7 +11,7 @@ use Rattle.core_machine.proofs.Contents.{eqb_no, if_false}
 use Rattle.core_setup.proofs.Admitted.{all_reverse}
 use Rattle.jour_rule.specs.declared.views.Entry.{Entry}
 use Rattle.phase_legal.specs.Turns.{AreStarts, line_at, named, start_turn, told, turn_in, turns_told}
-use Rattle.room_run.specs.Played.{AreOfFew, AreStartActs}
+use Rattle.room_ends.specs.Played.{AreOfFew, AreStartActs}
 use Rattle.room_whole.specs.Starts.{AreOfProtocols}
 
 pub all_by_place : {X : Type 0} (P : X → Type 0) (xs : List X) → ((n : ℕ) (x : X) → slice_get xs n ≡ Some x → P x) → AllByRecursion P xs

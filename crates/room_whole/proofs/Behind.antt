@@ -48,9 +48,9 @@ use Rattle.room_open.specs.declared.standing.Standing.{Standing}
 use Rattle.room_open.specs.declared.standing.StandingMember.{StandingMember}
 use Rattle.room_open.specs.declared.standing.StandingMember.TheVariants as standing
 use Rattle.room_open.specs.declared.standing.StandingPipe.{StandingPipe}
-use Rattle.room_close.specs.declared.ended.MemberEnded.{MemberEnded}
-use Rattle.room_close.specs.declared.ended.MemberEnded.TheVariants as ends
-use Rattle.room_whole.specs.After.{IsChannelAfter, IsMemberAfter, IsPipeAfter, IsProtocolAfter, StandsAfter}
+use Rattle.room_ends.specs.declared.ended.MemberEnded.{MemberEnded}
+use Rattle.room_ends.specs.declared.ended.MemberEnded.TheVariants as ends
+use Rattle.room_ends.specs.After.{IsChannelAfter, IsMemberAfter, IsPipeAfter, IsProtocolAfter, StandsAfter}
 use Rattle.room_whole.proofs.Channelled.{EndsWith, channel_of, direction_of, one_side}
 use Rattle.room_whole.proofs.Chosen.{IsOwnChoice, IsPipeChoice, all_of, choice, items_of, log_is, own_choice, pipe_choice, pipe_turns_are, printed, turns_are}
 use Rattle.room_whole.proofs.Following.{HasRead, all_said, direction_read, own_read}

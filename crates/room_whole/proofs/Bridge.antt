@@ -8,9 +8,9 @@ use Rattle.core_setup.specs.Setup.{Exports}
 use Rattle.import_lock.specs.Terms.{PhaseTerms}
 use Rattle.room_open.specs.Standing.{Stands}
 use Rattle.room_open.specs.declared.standing.Standing.{Standing}
-use Rattle.room_whole.specs.After.{StandsAfter}
+use Rattle.room_ends.specs.After.{StandsAfter}
 use Rattle.room_whole.specs.Past.{HasPast}
-use Rattle.room_whole.specs.Prints.{Prints}
+use Rattle.room_ends.specs.Prints.{Prints}
 use Rattle.room_whole.proofs.Behind.{stands_behind}
 use Rattle.room_whole.proofs.Chosen.{printed}
 use Rattle.room_whole.proofs.Given.{Given, exports_of, lines_of, rules_in, setup_of}

@@ -32,9 +32,9 @@ use Rattle.room_open.specs.Standing.{IsStandingDirection}
 use Rattle.room_open.specs.declared.standing.StandingMember.{StandingMember}
 use Rattle.room_open.specs.declared.standing.StandingMember.TheVariants as standing
 use Rattle.room_open.specs.declared.standing.StandingPipe.{StandingPipe}
-use Rattle.room_close.specs.Synced.{IsSettled, end_of}
-use Rattle.room_close.specs.declared.ended.MemberEnded.{MemberEnded}
-use Rattle.room_close.specs.declared.ended.MemberEnded.TheVariants as ends
+use Rattle.room_ends.specs.Synced.{IsSettled, end_of}
+use Rattle.room_ends.specs.declared.ended.MemberEnded.{MemberEnded}
+use Rattle.room_ends.specs.declared.ended.MemberEnded.TheVariants as ends
 use Rattle.room_whole.proofs.Given.{Given, exports_of, key_of, lists_of, lock_of, phase_of, pipe_of, setup_of}
 use Rattle.room_whole.proofs.OneChannel.{one_channel}
 use Rattle.room_whole.proofs.Protocolled.{IsOfPipe, IsOfProtocol, known, known_pipe}

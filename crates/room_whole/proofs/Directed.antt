@@ -19,7 +19,7 @@ use Rattle.phase_pipes.proofs.Owing.{has_entered, is_marked}
 use Rattle.phase_ends.specs.Leaves.{HasEntered, IsMarked}
 use Rattle.room_open.specs.declared.standing.StandingMember.TheVariants as standing
 use Rattle.room_open.specs.declared.standing.StandingPipe.{StandingPipe}
-use Rattle.room_close.specs.declared.ended.MemberEnded.TheVariants as ends
+use Rattle.room_ends.specs.declared.ended.MemberEnded.TheVariants as ends
 use Rattle.room_whole.specs.Past.{IsChannelOf}
 use Rattle.room_whole.proofs.Channelled.{IsOfDirection}
 use Rattle.room_whole.proofs.Chosen.{IsPipeChoice, choice, items_at, items_of, pipe_turns_are, printed_more, turns_of}

@@ -17,8 +17,8 @@ use Rattle.pipe_close.specs.declared.end.PipeEnded.{PipeEnded}
 use Rattle.room_open.specs.declared.standing.StandingMember.{StandingMember}
 use Rattle.room_open.specs.declared.standing.StandingMember.TheVariants as standing
 use Rattle.room_open.specs.declared.standing.StandingPipe.{StandingPipe}
-use Rattle.room_close.specs.declared.ended.MemberEnded.{MemberEnded}
-use Rattle.room_close.specs.declared.ended.MemberEnded.TheVariants as ends
+use Rattle.room_ends.specs.declared.ended.MemberEnded.{MemberEnded}
+use Rattle.room_ends.specs.declared.ended.MemberEnded.TheVariants as ends
 use Rattle.room_whole.specs.Past.{IsChannelOf}
 use Rattle.room_whole.proofs.Channelled.{EndsWith}
 use Rattle.room_whole.proofs.Choose.{chosen_none}

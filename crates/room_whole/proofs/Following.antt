@@ -45,8 +45,8 @@ use Rattle.phase_open.specs.declared.standing.StandingProtocol.{StandingProtocol
 use Rattle.phase_open.specs.declared.standing.StandingTable.{StandingTable}
 use Rattle.room_open.specs.declared.standing.StandingMember.TheVariants as standing
 use Rattle.room_open.specs.declared.standing.StandingPipe.{StandingPipe}
-use Rattle.room_close.specs.Synced.{IsSettled, end_of}
-use Rattle.room_close.specs.declared.ended.MemberEnded.TheVariants as ends
+use Rattle.room_ends.specs.Synced.{IsSettled, end_of}
+use Rattle.room_ends.specs.declared.ended.MemberEnded.TheVariants as ends
 use Rattle.room_whole.proofs.Channelled.{IsOfChannel, IsOfDirection}
 use Rattle.room_whole.proofs.Chosen.{IsOwnChoice, IsPipeChoice, all_of, choice, items_none, items_of, news_of}
 use Rattle.room_whole.proofs.Directed.{direction_log, direction_reads}

@@ -27,9 +27,9 @@ use Rattle.room_open.specs.Opening.{IsOpening}
 use Rattle.room_open.specs.Standing.{Stands}
 use Rattle.room_open.specs.declared.opening.Opening.{Opening}
 use Rattle.room_open.specs.declared.standing.Standing.{Standing}
-use Rattle.room_close.specs.Left.{locks_of}
-use Rattle.room_run.specs.Played.{AreOfFew, AreStartActs, IsPlayed}
-use Rattle.room_run.specs.declared.played.PlayedRoom.{PlayedRoom}
+use Rattle.room_ends.specs.Left.{locks_of}
+use Rattle.room_ends.specs.Played.{AreOfFew, AreStartActs, IsPlayed}
+use Rattle.room_ends.specs.declared.played.PlayedRoom.{PlayedRoom}
 use Rattle.room_whole.specs.Past.{HasPast}
 use Rattle.room_whole.specs.Starts.{AreOfProtocols}
 

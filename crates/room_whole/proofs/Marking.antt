@@ -29,7 +29,7 @@ use Rattle.phase_ends.proofs.Leaving.{by_option}
 use Rattle.phase_open.specs.declared.standing.StandingProtocol.{StandingProtocol}
 use Rattle.room_open.specs.declared.standing.StandingMember.TheVariants as standing
 use Rattle.room_open.specs.declared.standing.StandingPipe.{StandingPipe}
-use Rattle.room_close.specs.declared.ended.MemberEnded.TheVariants as ends
+use Rattle.room_ends.specs.declared.ended.MemberEnded.TheVariants as ends
 use Rattle.room_whole.proofs.Channelled.{IsOfChannel, IsOfDirection, by_owner, channel_of, direction_of}
 use Rattle.room_whole.proofs.Choose.{chosen_none}
 use Rattle.room_whole.proofs.Chosen.{Choice, IsChoice, IsOwnChoice, IsPipeChoice, choice, choose, items_at, items_none, items_of, made_is, made_of, no_choice, own_choice, pipe_choice, printed_more, turns_are, turns_of}

@@ -12,7 +12,7 @@ use Rattle.core_setup.specs.Reports.{dones}
 use Rattle.phase_legal.specs.Turns.{line_at, place_of, told, turn_in, turns_told}
 use Rattle.import_lock.specs.Terms.{PhaseTerms}
 use Rattle.import_lock.specs.declared.state.OpRecord.{OpRecord}
-use Rattle.room_whole.specs.Prints.{PrintsOps, done_of, turn_of_record}
+use Rattle.room_ends.specs.Prints.{PrintsOps, done_of, turn_of_record}
 use Rattle.room_whole.proofs.Chosen.{all_of, printed, turns_of}
 use Rattle.room_whole.proofs.Given.{Given, lines_of, phase_of, rules_in, setup_of}
 

@@ -39,13 +39,13 @@ use Rattle.room_open.specs.declared.standing.Standing.{Standing}
 use Rattle.room_open.specs.declared.standing.StandingMember.{StandingMember}
 use Rattle.room_open.specs.declared.standing.StandingMember.TheVariants as standing
 use Rattle.room_open.specs.declared.standing.StandingPipe.{StandingPipe}
-use Rattle.room_close.specs.Left.{locks_of, session_key}
-use Rattle.room_close.specs.declared.ended.MemberEnded.{MemberEnded}
-use Rattle.room_close.specs.declared.ended.MemberEnded.TheVariants as ends
+use Rattle.room_ends.specs.Left.{locks_of, session_key}
+use Rattle.room_ends.specs.declared.ended.MemberEnded.{MemberEnded}
+use Rattle.room_ends.specs.declared.ended.MemberEnded.TheVariants as ends
 use Rattle.room_close.proofs.Done.{own_ended, pipe_ended}
-use Rattle.room_run.specs.Played.{IsPlayed}
-use Rattle.room_run.specs.declared.played.PlayedRoom.{PlayedRoom}
-use Rattle.room_whole.specs.After.{IsMadeOver, IsMemberOver, IsPipeOver, IsSessionOver}
+use Rattle.room_ends.specs.Played.{IsPlayed}
+use Rattle.room_ends.specs.declared.played.PlayedRoom.{PlayedRoom}
+use Rattle.room_ends.specs.After.{IsMadeOver, IsMemberOver, IsPipeOver, IsSessionOver}
 
 module _ {J P : Type 0} (verdict : J → Net → Route → Verdict) (terms : P → PhaseTerms) (exports : P → ℕ → Exports) (rules : P → Rules) (played : P) (old : Standing J) (opening : Opening J P) (starts : List Act) (made : PlayedRoom J)
     (opens : IsOpening terms exports rules played old.tables.items old.members.items opening) (is_played : IsPlayed verdict terms exports rules opening.room starts made) where

@@ -28,9 +28,9 @@ use Rattle.phase_open.specs.declared.standing.StandingTable.{StandingTable}
 use Rattle.room_open.specs.declared.standing.Standing.{Standing}
 use Rattle.room_open.specs.declared.standing.StandingMember.{StandingMember}
 use Rattle.room_open.specs.declared.standing.StandingMember.TheVariants as standing
-use Rattle.room_close.specs.declared.ended.MemberEnded.{MemberEnded}
-use Rattle.room_close.specs.declared.ended.MemberEnded.TheVariants as ends
-use Rattle.room_whole.specs.After.{IsChannelAfter, IsMemberAfter, StandsAfter}
+use Rattle.room_ends.specs.declared.ended.MemberEnded.{MemberEnded}
+use Rattle.room_ends.specs.declared.ended.MemberEnded.TheVariants as ends
+use Rattle.room_ends.specs.After.{IsChannelAfter, IsMemberAfter, StandsAfter}
 use Rattle.room_whole.specs.Past.{HasPast, IsChannelOf, IsSound}
 use Rattle.room_whole.proofs.Channelled.{EndsWith}
 use Rattle.room_whole.proofs.Chosen.{news_of, no_items, printed}

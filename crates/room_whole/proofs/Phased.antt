@@ -11,7 +11,7 @@ use Rattle.table_shared.specs.Records.{change_of}
 use Rattle.table_shared.specs.declared.close.Phase.{Phase}
 use Rattle.phase_close.specs.Closed.{TableList}
 use Rattle.phase_close.specs.Whole.{said_in}
-use Rattle.room_whole.specs.Prints.{PrintsTable}
+use Rattle.room_ends.specs.Prints.{PrintsTable}
 use Rattle.room_whole.proofs.Chosen.{printed}
 use Rattle.room_whole.proofs.Given.{Given, lines_of, lists_of, setup_of}
 use Rattle.room_whole.proofs.Over.{phases_made}

@@ -32,11 +32,11 @@ use Rattle.phase_close.specs.Whole.{entries_in}
 use Rattle.phase_open.specs.declared.standing.StandingProtocol.{StandingProtocol}
 use Rattle.room_open.specs.declared.standing.StandingMember.TheVariants as standing
 use Rattle.room_open.specs.declared.standing.StandingPipe.{StandingPipe}
-use Rattle.room_close.specs.declared.ended.MemberEnded.{MemberEnded}
-use Rattle.room_close.specs.declared.ended.MemberEnded.TheVariants as ends
+use Rattle.room_ends.specs.declared.ended.MemberEnded.{MemberEnded}
+use Rattle.room_ends.specs.declared.ended.MemberEnded.TheVariants as ends
 use Rattle.room_close.proofs.Recorded.{has_seen}
-use Rattle.room_run.specs.Played.{HasPlayed}
-use Rattle.room_whole.specs.Prints.{Prints, PrintsChannel, PrintsMember, PrintsPipe, PrintsReplies, PrintsSession, PrintsText}
+use Rattle.room_ends.specs.Played.{HasPlayed}
+use Rattle.room_ends.specs.Prints.{Prints, PrintsChannel, PrintsMember, PrintsPipe, PrintsReplies, PrintsSession, PrintsText}
 use Rattle.room_whole.proofs.Answering.{replies_at}
 use Rattle.room_whole.proofs.Channelled.{channel_of}
 use Rattle.room_whole.proofs.Chosen.{all_of, items_of, log_is, printed}

@@ -40,8 +40,8 @@ use Rattle.room_open.specs.Opening.{IsOpenPipe}
 use Rattle.room_open.specs.Standing.{IsStandingPipe}
 use Rattle.room_open.specs.declared.standing.StandingMember.TheVariants as standing
 use Rattle.room_open.specs.declared.standing.StandingPipe.{StandingPipe}
-use Rattle.room_close.specs.declared.ended.MemberEnded.TheVariants as ends
-use Rattle.room_run.specs.Played.{HasStarted}
+use Rattle.room_ends.specs.declared.ended.MemberEnded.TheVariants as ends
+use Rattle.room_ends.specs.Played.{HasStarted}
 use Rattle.room_whole.proofs.Over.{ended_pipe, ended_session}
 use Rattle.room_whole.proofs.Given.{Given, exports_of, key_of, lines_of, lists_of, lock_of, locks_in, phase_of, pipe_of, seats_of, seen_of}
 

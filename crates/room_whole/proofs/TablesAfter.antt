@@ -25,8 +25,8 @@ use Rattle.phase_pipes.specs.Ports.{joined_terms}
 use Rattle.phase_room.specs.Stands.{StandsTable}
 use Rattle.phase_open.specs.Standing.{IsStandingTable, table_stood}
 use Rattle.phase_open.specs.declared.standing.StandingTable.{StandingTable}
-use Rattle.room_whole.specs.After.{IsTableAfter}
-use Rattle.room_whole.specs.Prints.{PrintsTable}
+use Rattle.room_ends.specs.After.{IsTableAfter}
+use Rattle.room_ends.specs.Prints.{PrintsTable}
 
 all_tell : (opening : TableOpening) (content : Content) (es : List Entry) (said : List JEntry) → AreRecords opening content es said → AllTell content said
 all_tell opening content [] [] are = tt

@@ -20,7 +20,7 @@ use Rattle.table_shared.proofs.Histories.{same_records}
 use Rattle.phase_legal.specs.Shown.{PassView}
 use Rattle.phase_actors.specs.Texts.{IsAnswer, IsText}
 use Rattle.phase_actors.specs.declared.actor.Told.{Told}
-use Rattle.room_whole.specs.Prints.{PrintsText}
+use Rattle.room_ends.specs.Prints.{PrintsText}
 
 take_behind : {X : Type 0} (xs ys : List X) (n : ℕ) → take (length xs + n) (xs ++ ys) ≡ xs ++ take n ys
 take_behind [] ys n = let none : 0 + n ≡ n = omega arith in ap (λ k. take k ys) none

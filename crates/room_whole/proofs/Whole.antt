@@ -18,11 +18,11 @@ use Rattle.room_open.specs.Opening.{IsOpening}
 use Rattle.room_open.specs.Standing.{Stands}
 use Rattle.room_open.specs.declared.opening.Opening.{Opening}
 use Rattle.room_open.specs.declared.standing.Standing.{Standing}
-use Rattle.room_run.specs.Played.{AreOfFew, AreStartActs, IsPlayed}
-use Rattle.room_run.specs.declared.played.PlayedRoom.{PlayedRoom}
-use Rattle.room_whole.specs.After.{StandsAfter}
+use Rattle.room_ends.specs.Played.{AreOfFew, AreStartActs, IsPlayed}
+use Rattle.room_ends.specs.declared.played.PlayedRoom.{PlayedRoom}
+use Rattle.room_ends.specs.After.{StandsAfter}
 use Rattle.room_whole.specs.Past.{HasPast}
-use Rattle.room_whole.specs.Prints.{Prints}
+use Rattle.room_ends.specs.Prints.{Prints}
 use Rattle.room_whole.specs.Starts.{AreOfProtocols}
 use Rattle.room_whole.proofs.Bridge.{behind_is, past_is, printed_is}
 use Rattle.room_whole.proofs.Chosen.{printed}

@@ -1,4 +1,2 @@
 pub mod Starts
 pub mod Past
-pub mod Prints
-pub mod After

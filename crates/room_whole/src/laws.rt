@@ -7,12 +7,12 @@ ghost use Rattle.room_open.specs.Opening.{IsOpening};
 ghost use Rattle.room_open.specs.Standing.{Stands};
 ghost use Rattle.room_open.specs.declared.opening.Opening.{Opening as OpeningView};
 ghost use Rattle.room_open.specs.declared.standing.Standing.{Standing as StandingView};
-ghost use Rattle.room_run.specs.Played.{AreOfFew, AreStartActs, IsPlayed};
-ghost use Rattle.room_run.specs.declared.played.PlayedRoom.{PlayedRoom as PlayedRoomView};
-ghost use Rattle.room_whole.specs.After.{IsMadeOver, StandsAfter};
+ghost use Rattle.room_ends.specs.Played.{AreOfFew, AreStartActs, IsPlayed};
+ghost use Rattle.room_ends.specs.declared.played.PlayedRoom.{PlayedRoom as PlayedRoomView};
+ghost use Rattle.room_ends.specs.After.{IsMadeOver, StandsAfter};
 ghost use Rattle.room_first.specs.First.{IsFirst};
 ghost use Rattle.room_whole.specs.Past.{HasPast};
-ghost use Rattle.room_whole.specs.Prints.{Prints};
+ghost use Rattle.room_ends.specs.Prints.{Prints};
 ghost use Rattle.room_whole.specs.Starts.{AreOfProtocols};
 
 use attrs::Judge;

@@ -25,8 +25,8 @@ use Rattle.phase_open.specs.declared.standing.StandingChannel.{StandingChannel}
 use Rattle.phase_open.specs.declared.standing.StandingProtocol.{StandingProtocol}
 use Rattle.phase_open.specs.declared.standing.StandingTable.{StandingTable}
 use Rattle.pipe_close.specs.declared.end.PipeEnded.{PipeEnded}
-use Rattle.room_close.specs.declared.ended.MemberEnded.{MemberEnded}
-use Rattle.room_close.specs.declared.ended.MemberEnded.TheVariants as ended
+use Rattle.room_ends.specs.declared.ended.MemberEnded.{MemberEnded}
+use Rattle.room_ends.specs.declared.ended.MemberEnded.TheVariants as ended
 use Rattle.room_open.specs.Standing.{IsStandingDirection, IsStandingMember, IsStandingPipe, Stands}
 use Rattle.room_open.specs.declared.standing.Standing.{Standing}
 use Rattle.room_open.specs.declared.standing.StandingMember.{StandingMember}
@@ -35,8 +35,8 @@ use Rattle.room_open.specs.declared.standing.StandingPipe.{StandingPipe}
 use Rattle.room_report.specs.Behind.{IsPlayedOver, numbers_in}
 use Rattle.room_report.specs.Described.{AreLogged, IsDescribed, IsMemberOf, IsPipeOf, IsSessionOf, MayStand}
 use Rattle.room_report.specs.declared.numbers.ChannelNumbers.{ChannelNumbers}
-use Rattle.room_run.specs.declared.played.PlayedRoom.{PlayedRoom}
-use Rattle.room_whole.specs.After.{IsChannelAfter, IsExporterAfter, IsMadeOver, IsMemberAfter, IsMemberOver, IsPipeAfter, IsProtocolAfter, IsSessionOver, StandsAfter}
+use Rattle.room_ends.specs.declared.played.PlayedRoom.{PlayedRoom}
+use Rattle.room_ends.specs.After.{IsChannelAfter, IsExporterAfter, IsMadeOver, IsMemberAfter, IsMemberOver, IsPipeAfter, IsProtocolAfter, IsSessionOver, StandsAfter}
 
 same_maps : {X Y Z : Type 0} (f : X → Z) (g : Y → Z) (n : ℕ) (xs : List X) (ys : List Y) → Pairs (λ k x y. f x ≡ g y) n xs ys → map f xs ≡ map g ys
 same_maps f g n [] [] ps = refl

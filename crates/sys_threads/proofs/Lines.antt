@@ -14,7 +14,7 @@ use Rattle.script_lines.specs.declared.script.Line.TheVariants as lines
 use Rattle.sys_run.specs.Scripts.{FitsLine, line_of}
 use Rattle.phase_legal.specs.Turns.{start_turn}
 use Rattle.phase_actors.specs.Script.{NamesWhatIs}
-use Rattle.room_run.specs.Played.{AreOfFew, AreStartActs, start_act, starts_of}
+use Rattle.room_ends.specs.Played.{AreOfFew, AreStartActs, start_act, starts_of}
 use Rattle.room_whole.specs.Starts.{AreOfProtocols}
 use Rattle.sys_threads.specs.Running.{CanPlay, NamesSome}
 

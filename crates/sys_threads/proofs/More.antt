@@ -13,11 +13,11 @@ use Rattle.show_route.specs.declared.query.Query.{Query}
 use Rattle.sys_run.specs.Playing.{joined_all, starts_in}
 use Rattle.sys_run.specs.Scripts.{line_of}
 use Rattle.phase_answers.specs.declared.lent.Lent.{Lent}
-use Rattle.room_close.specs.declared.ended.MemberEnded.{MemberEnded}
-use Rattle.room_close.specs.declared.ended.MemberEnded.TheVariants.{Own, Pipe}
+use Rattle.room_ends.specs.declared.ended.MemberEnded.{MemberEnded}
+use Rattle.room_ends.specs.declared.ended.MemberEnded.TheVariants.{Own, Pipe}
 use Rattle.room_open.specs.declared.standing.Standing.{Standing}
 use Rattle.room_whole.specs.Past.{HasPast}
-use Rattle.room_whole.specs.Prints.{Prints, PrintsMember}
+use Rattle.room_ends.specs.Prints.{Prints, PrintsMember}
 use Rattle.sys_threads.specs.Playing.{turns_before, turns_in, turns_of}
 use Rattle.sys_threads.specs.declared.playing.Earlier.{Earlier}
 

@@ -28,11 +28,11 @@ use Rattle.room_open.specs.declared.standing.Standing.{Standing}
 use Rattle.room_report.specs.Behind.{IsPlayedOver, numbers_in}
 use Rattle.room_report.specs.Described.{AreLogged, IsDescribed}
 use Rattle.room_report.specs.declared.numbers.ChannelNumbers.{ChannelNumbers}
-use Rattle.room_run.specs.Played.{AreOfFew, AreStartActs, IsPlayed, starts_of}
-use Rattle.room_run.specs.declared.played.PlayedRoom.{PlayedRoom}
-use Rattle.room_whole.specs.After.{IsMadeOver, StandsAfter}
+use Rattle.room_ends.specs.Played.{AreOfFew, AreStartActs, IsPlayed, starts_of}
+use Rattle.room_ends.specs.declared.played.PlayedRoom.{PlayedRoom}
+use Rattle.room_ends.specs.After.{IsMadeOver, StandsAfter}
 use Rattle.room_whole.specs.Past.{HasPast}
-use Rattle.room_whole.specs.Prints.{Prints}
+use Rattle.room_ends.specs.Prints.{Prints}
 use Rattle.room_whole.specs.Starts.{AreOfProtocols}
 use Rattle.sys_threads.specs.Playing.{rules_in, sent_in, setup_lent, terms_of, turns_before}
 use Rattle.sys_threads.specs.Running.{CanPlay, HasRun, IsNext}

@@ -11,8 +11,8 @@ use Rattle.script_lines.specs.declared.script.Line.{Line}
 use Rattle.import_lock.specs.declared.state.OpFault.TheVariants as ops
 use Rattle.room_first.specs.Sent.{lent_by, sent_by}
 use Rattle.room_open.specs.Standing.{Stands}
-use Rattle.room_run.specs.declared.played.PlayFault.{PlayFault}
-use Rattle.room_run.specs.declared.played.PlayFault.TheVariants as plays
+use Rattle.room_run.specs.declared.fault.PlayFault.{PlayFault}
+use Rattle.room_run.specs.declared.fault.PlayFault.TheVariants as plays
 use Rattle.sys_threads.specs.Faults.{fault_of}
 use Rattle.sys_threads.specs.Playing.{sent_in, setup_lent, terms_of}
 use Rattle.sys_threads.specs.Running.{CanPlay, IsFew, IsNext, Rests}

@@ -13,7 +13,7 @@ use Rattle.core_machine.specs.Lines.{Act}
 use Rattle.core_setup.specs.Protocols.{starts_from, with_begin, with_start}
 use Rattle.core_setup.specs.Setup.{Protocol}
 use Rattle.core_setup.proofs.PairLemmas.{length_front, take_one_more}
-use Rattle.room_run.specs.Played.{start_act, starts_of}
+use Rattle.room_ends.specs.Played.{start_act, starts_of}
 use Rattle.sys_run.specs.Parts.{body_seen, protocol_seen}
 use Rattle.sys_run.specs.declared.parts.BodyParts.{BodyParts}
 use Rattle.sys_run.specs.declared.parts.BodyParts.TheVariants.{Pipe, Source}

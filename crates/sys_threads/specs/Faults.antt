@@ -2,8 +2,8 @@
 -- From: own.
 -- Example: want of memory is want of memory.
 use Rattle.import_lock.specs.declared.state.OpFault.TheVariants as ops
-use Rattle.room_run.specs.declared.played.PlayFault.{PlayFault}
-use Rattle.room_run.specs.declared.played.PlayFault.TheVariants as plays
+use Rattle.room_run.specs.declared.fault.PlayFault.{PlayFault}
+use Rattle.room_run.specs.declared.fault.PlayFault.TheVariants as plays
 use Rattle.sys_threads.specs.declared.fault.RunFault.{RunFault}
 use Rattle.sys_threads.specs.declared.fault.RunFault.TheVariants as runs
 

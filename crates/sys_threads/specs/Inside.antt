@@ -9,7 +9,7 @@ use Rattle.bits_ip.specs.Prefix.{Net}
 use Rattle.bits_ip.specs.declared.address.Family.{Family}
 use Rattle.core_setup.specs.Channels.{channels_from}
 use Rattle.phase_answers.specs.declared.lent.Lent.{Lent}
-use Rattle.room_run.specs.declared.played.PlayedRoom.{PlayedRoom}
+use Rattle.room_ends.specs.declared.played.PlayedRoom.{PlayedRoom}
 use Rattle.script_lines.specs.declared.script.Line.{Line}
 use Rattle.std.specs.declared.alloc.Global.{Global}
 use Rattle.std.specs.declared.vec.Vec.{Vec}

@@ -16,10 +16,10 @@ use Rattle.core_setup.specs.Setup.{Exports, Setup}
 use Rattle.import_lock.specs.Terms.{PhaseTerms}
 use Rattle.import_lock.specs.declared.state.OpRecord.{OpRecord}
 use Rattle.phase_answers.specs.declared.lent.Lent.{Lent}
-use Rattle.room_close.specs.declared.ended.MemberEnded.{MemberEnded}
-use Rattle.room_close.specs.declared.ended.MemberEnded.TheVariants.{Own, Pipe}
+use Rattle.room_ends.specs.declared.ended.MemberEnded.{MemberEnded}
+use Rattle.room_ends.specs.declared.ended.MemberEnded.TheVariants.{Own, Pipe}
 use Rattle.room_first.specs.Sent.{sent_by}
-use Rattle.room_whole.specs.Prints.{turn_of_record}
+use Rattle.room_ends.specs.Prints.{turn_of_record}
 use Rattle.show_route.specs.declared.query.Query.{Query}
 use Rattle.sys_run.specs.Parts.{setup_seen}
 use Rattle.sys_run.specs.Scripts.{line_of}

@@ -19,7 +19,7 @@ use Rattle.report.specs.declared.phase.PhaseReport.{PhaseReport}
 use Rattle.room_first.specs.Sent.{lent_by, sent_by}
 use Rattle.room_open.specs.Standing.{Stands}
 use Rattle.room_report.specs.Described.{AreLogged}
-use Rattle.room_run.specs.Played.{starts_of}
+use Rattle.room_ends.specs.Played.{starts_of}
 use Rattle.room_whole.specs.Past.{HasPast}
 use Rattle.script_lines.specs.declared.script.Line.{Line}
 use Rattle.script_lines.specs.declared.script.Line.TheVariants as lines

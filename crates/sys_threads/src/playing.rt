@@ -4,7 +4,7 @@ use attrs::Judge;
 use export_lock::Sends;
 use import_lock::Phase;
 use phase_answers::Lent;
-use room_run::PlayedRoom;
+use room_ends::PlayedRoom;
 use script_lines::Line;
 use std::snapshot::Snapshot;
 

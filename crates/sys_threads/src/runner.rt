@@ -13,7 +13,7 @@ ghost use Rattle.room_open.specs.Opening.{IsOpening};
 ghost use Rattle.room_open.specs.Standing.{Stands};
 ghost use Rattle.room_open.specs.declared.opening.Opening.{Opening as OpeningView};
 ghost use Rattle.room_open.specs.declared.standing.StandingMember.{StandingMember as HeldView};
-ghost use Rattle.room_run.specs.Played.{IsPlayed, starts_of};
+ghost use Rattle.room_ends.specs.Played.{IsPlayed, starts_of};
 ghost use Rattle.sys_run.specs.Scripts.{phase_of};
 ghost use Rattle.sys_threads.specs.Inside.{IsOneMore};
 ghost use Rattle.sys_threads.specs.Playing.{rules_in, sent_in, setup_lent, terms_of};
@@ -36,10 +36,11 @@ use phase_actors::Answers;
 use phase_answers::{Answering, Lent};
 use report::PhaseReport;
 use room_actors::laws::lines_can_be_done;
+use room_ends::PlayedRoom;
 use room_first::{count_channels, sources_of, stand_first};
 use room_open::{Opening, Standing, open_room};
 use room_report::{log_lengths, note_numbers, report_phase, stand_after};
-use room_run::{PlayedRoom, play_room};
+use room_run::play_room;
 use room_whole::laws::{
     members_are_of_what_stood, nothing_was_printed_before, played_phases_are_legal,
 };

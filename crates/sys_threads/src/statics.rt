@@ -2,7 +2,7 @@
 ghost use Rattle.std.specs.Prelude.{◌≡◌, ◌<◌, ◌^◌, ℕ, [], IfOk, OnOk, length, map};
 ghost use Rattle.std.specs.List.{All};
 ghost use Rattle.core_setup.specs.Protocols.{starts_from};
-ghost use Rattle.room_run.specs.Played.{starts_of};
+ghost use Rattle.room_ends.specs.Played.{starts_of};
 ghost use Rattle.sys_run.specs.Parts.{protocol_seen};
 ghost use Rattle.sys_threads.specs.Inside.{begins, with_number};
 

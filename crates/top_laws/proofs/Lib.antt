@@ -2,4 +2,3 @@ mod Counted
 mod Exists
 mod Legal
 mod Says
-mod Sure

@@ -1,4 +1,4 @@
-use Rattle.room_close.specs.Left.{locks_of}
+use Rattle.room_ends.specs.Left.{locks_of}
 use Rattle.room_close.proofs.Opened.{pipe_left}
 use Rattle.room_close.proofs.closing.close_one_pipe.Goals as goal
 

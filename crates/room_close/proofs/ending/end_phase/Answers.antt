@@ -7,7 +7,7 @@ use Rattle.jour_rule.specs.declared.views.Terms.{Terms}
 use Rattle.phase_close.specs.Whole.{ArePassesOf}
 use Rattle.pipe_rest.specs.Later.{CanSettle}
 use Rattle.room_close.specs.Inside.{EndsAtRest}
-use Rattle.room_close.specs.Synced.{IsSynced}
+use Rattle.room_ends.specs.Synced.{IsSynced}
 use Rattle.room_close.proofs.Known.{all_can_settle}
 use Rattle.room_close.proofs.Resting.{is_synced}
 use Rattle.room_close.proofs.ending.end_phase.Goals as goal

@@ -5,7 +5,7 @@ use Rattle.std.proofs.lemmas.List.{nil_from_length}
 use Rattle.core_setup.proofs.PairLemmas.{get_within}
 use Rattle.phase_close.proofs.Hearing.{mid_at}
 use Rattle.phase_close.proofs.Lefts.{if_each, if_one}
-use Rattle.room_close.specs.Left.{AreHandsOf, AreMembersLeft, IsMemberLeft}
+use Rattle.room_ends.specs.Left.{AreHandsOf, AreMembersLeft, IsMemberLeft}
 use Rattle.room_close.proofs.Lefts.{none_left, one_left}
 use Rattle.room_close.proofs.members.close_members.Goals as goal
 

@@ -1,6 +1,6 @@
 use Rattle.std.proofs.Common.{◌≡◌, ◌≤◌, ◌++◌, ℕ, List, length}
 use Rattle.std.specs.Prelude.{slice_get}
-use Rattle.room_close.specs.Left.{AreMembersLeft}
+use Rattle.room_ends.specs.Left.{AreMembersLeft}
 use Rattle.room_close.proofs.members.close_members.Given as goal
 use Rattle.room_members.specs.declared.member.Member.{Member}
 

@@ -1,6 +1,6 @@
 use Rattle.std.proofs.Common.{subst}
 use Rattle.phase_close.specs.Closed.{all_lists}
-use Rattle.room_close.specs.Ended.{CanEndMember}
+use Rattle.room_ends.specs.Ended.{CanEndMember}
 use Rattle.room_close.proofs.seats.end_member.Goals as goal
 
 pub end_session_at-requires : goal.end_session_at-requires

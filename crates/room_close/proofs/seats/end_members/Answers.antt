@@ -4,7 +4,7 @@ use Rattle.std.proofs.lemmas.List.{nil_from_length}
 use Rattle.phase_close.specs.Closed.{TableList, all_lists}
 use Rattle.phase_close.proofs.Besides.{beside_more, beside_none}
 use Rattle.phase_legal.specs.Shown.{AreBeside}
-use Rattle.room_close.specs.Ended.{CanEndMember, EndsMember}
+use Rattle.room_ends.specs.Ended.{CanEndMember, EndsMember}
 use Rattle.room_close.proofs.seats.end_members.Goals as goal
 
 pub loop-member-init : goal.loop-member-init

@@ -3,7 +3,7 @@ use Rattle.std.specs.List.{AllByRecursion}
 use Rattle.phase_close.specs.Closed.{all_lists}
 use Rattle.phase_legal.specs.Shown.{AreBeside}
 use Rattle.pipe_rest.specs.declared.member.MemberLeft.{MemberLeft}
-use Rattle.room_close.specs.Ended.{CanEndMember, EndsMember}
+use Rattle.room_ends.specs.Ended.{CanEndMember, EndsMember}
 use Rattle.room_close.proofs.seats.end_members.Given as goal
 
 abbrev pub invariant-loop-member : goal.invariant-loop-member

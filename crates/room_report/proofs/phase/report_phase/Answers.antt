@@ -3,7 +3,7 @@ use Rattle.std.specs.declared.alloc.Global.{Global}
 use Rattle.std.specs.declared.vec.Vec.{Vec}
 use Rattle.table_shared.specs.declared.close.Phase.{Phase}
 use Rattle.phase_actors.specs.declared.actor.Told.{Told}
-use Rattle.room_close.specs.declared.ended.MemberEnded.{MemberEnded}
+use Rattle.room_ends.specs.declared.ended.MemberEnded.{MemberEnded}
 use Rattle.room_report.specs.Inside.{IsExportOf, IsLogOf, Reports, Serves, journal_of, mode_of, operations_of, replies_told, rows_of}
 use Rattle.room_report.proofs.Written.{is_report}
 use Rattle.room_report.proofs.phase.report_phase.Goals as goal

@@ -1,6 +1,6 @@
 use Rattle.std.proofs.Common.{◌≡◌, ◌++◌, List, length}
 use Rattle.core_setup.specs.Pairs.{Pairs}
-use Rattle.room_close.specs.declared.ended.MemberEnded.{MemberEnded}
+use Rattle.room_ends.specs.declared.ended.MemberEnded.{MemberEnded}
 use Rattle.room_report.specs.Inside.{IsMemberBehind}
 use Rattle.room_report.proofs.standing.members_after.Given as goal
 

@@ -1,5 +1,5 @@
 use Rattle.room_run.proofs.Rooms.{can_act, have_not_started, start_seats}
-use Rattle.room_run.specs.Played.{starts_of}
+use Rattle.room_ends.specs.Played.{starts_of}
 use Rattle.room_run.proofs.playing.play_room.Goals as goal
 
 pub start_and_act-requires-clause-room : goal.start_and_act-requires-clause-room

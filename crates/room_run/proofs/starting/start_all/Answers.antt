@@ -1,7 +1,7 @@
 use Rattle.std.proofs.Common.{sym, subst, take}
 use Rattle.std.proofs.lemmas.List.{take_all}
 use Rattle.room_run.specs.Inside.{HaveStarted}
-use Rattle.room_run.specs.Played.{starts_of}
+use Rattle.room_ends.specs.Played.{starts_of}
 use Rattle.room_run.proofs.Starters.{starts_more}
 use Rattle.room_run.proofs.starting.start_all.Goals as goal
 

@@ -1,6 +1,6 @@
 use Rattle.std.proofs.Common.{take}
 use Rattle.room_run.specs.Inside.{AreStartSeats, HaveStarted}
-use Rattle.room_run.specs.Played.{starts_of}
+use Rattle.room_ends.specs.Played.{starts_of}
 use Rattle.room_run.proofs.starting.start_all.Given as goal
 
 abbrev pub invariant-loop-index : goal.invariant-loop-index

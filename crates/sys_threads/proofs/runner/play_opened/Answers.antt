@@ -1,5 +1,5 @@
 use Rattle.std.proofs.Common.{Err, ap}
-use Rattle.room_run.specs.declared.played.PlayFault.{PlayFault}
+use Rattle.room_run.specs.declared.fault.PlayFault.{PlayFault}
 use Rattle.sys_threads.specs.Faults.{fault_of}
 use Rattle.sys_threads.proofs.Ready.{fault_is, late_only}
 use Rattle.sys_threads.proofs.runner.play_opened.Goals as goal

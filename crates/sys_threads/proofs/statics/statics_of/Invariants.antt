@@ -1,6 +1,6 @@
 use Rattle.std.proofs.Common.{◌≡◌, ◌<◌, ℕ, All, [], map, take}
 use Rattle.core_setup.specs.Protocols.{starts_from}
-use Rattle.room_run.specs.Played.{starts_of}
+use Rattle.room_ends.specs.Played.{starts_of}
 use Rattle.sys_run.specs.Parts.{protocol_seen}
 use Rattle.sys_threads.proofs.statics.statics_of.Given as goal
 

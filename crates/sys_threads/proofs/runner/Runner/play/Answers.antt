@@ -7,8 +7,8 @@ use Rattle.room_first.specs.Sent.{lent_by}
 use Rattle.room_open.specs.declared.standing.StandingMember.{StandingMember}
 use Rattle.room_report.specs.Behind.{numbers_in}
 use Rattle.room_report.specs.Described.{IsDescribed}
-use Rattle.room_run.specs.Played.{IsPlayed, starts_of}
-use Rattle.room_whole.specs.Prints.{Prints}
+use Rattle.room_ends.specs.Played.{IsPlayed, starts_of}
+use Rattle.room_ends.specs.Prints.{Prints}
 use Rattle.sys_threads.specs.Playing.{rules_in, sent_in, terms_of}
 use Rattle.sys_threads.specs.declared.fault.RunFault.{RunFault}
 use Rattle.sys_threads.specs.declared.playing.Earlier.{Earlier}

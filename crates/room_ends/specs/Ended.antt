@@ -19,9 +19,9 @@ use Rattle.pipe_close.specs.Left.{PipeLocks}
 use Rattle.pipe_close.specs.declared.end.PipeEnded.{PipeEnded}
 use Rattle.pipe_rest.specs.declared.member.MemberLeft.{MemberLeft}
 use Rattle.pipe_rest.specs.declared.member.MemberLeft.TheVariants as lefts
-use Rattle.room_close.specs.declared.ended.MemberEnded.{MemberEnded}
-use Rattle.room_close.specs.declared.ended.MemberEnded.TheVariants as ends
-use Rattle.room_close.specs.declared.ended.RoomEnded.{RoomEnded}
+use Rattle.room_ends.specs.declared.ended.MemberEnded.{MemberEnded}
+use Rattle.room_ends.specs.declared.ended.MemberEnded.TheVariants as ends
+use Rattle.room_ends.specs.declared.ended.RoomEnded.{RoomEnded}
 use Rattle.table_shared.specs.Opening.{TableOpening}
 use Rattle.table_shared.specs.Phases.{IsPhase}
 use Rattle.table_shared.specs.declared.close.Phase.{Phase}

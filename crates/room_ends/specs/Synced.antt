@@ -19,11 +19,11 @@ use Rattle.phase_close.specs.Closed.{TableList}
 use Rattle.phase_close.specs.Rooms.{HandsView}
 use Rattle.phase_close.specs.Whole.{PassesView}
 use Rattle.pipe_rest.specs.declared.member.MemberLeft.{MemberLeft}
-use Rattle.room_close.specs.Ended.{IsRoomEnded}
-use Rattle.room_close.specs.Left.{AreMembersLeft}
-use Rattle.room_close.specs.declared.ended.MemberEnded.{MemberEnded}
-use Rattle.room_close.specs.declared.ended.MemberEnded.TheVariants.{Own, Pipe}
-use Rattle.room_close.specs.declared.ended.RoomEnded.{RoomEnded}
+use Rattle.room_ends.specs.Ended.{IsRoomEnded}
+use Rattle.room_ends.specs.Left.{AreMembersLeft}
+use Rattle.room_ends.specs.declared.ended.MemberEnded.{MemberEnded}
+use Rattle.room_ends.specs.declared.ended.MemberEnded.TheVariants.{Own, Pipe}
+use Rattle.room_ends.specs.declared.ended.RoomEnded.{RoomEnded}
 use Rattle.room_members.specs.declared.room.Room.{Room}
 
 -- the position of a table's last entry

@@ -1,6 +1,6 @@
 use Rattle.birdcore_top.specs.Command.{command_of}
-use Rattle.top_laws.proofs.Sure.{none_failed, none_rose, sink_takes}
-use Rattle.top_laws.proofs.surely.do_surely.Goals as goal
+use Rattle.birdcore_top.proofs.Sure.{none_failed, none_rose, sink_takes}
+use Rattle.birdcore_top.proofs.surely.do_surely.Goals as goal
 
 pub returns-clause-complete : goal.returns-clause-complete
 returns-clause-complete g c = λ o required.

@@ -1,15 +1,5 @@
-//! A room that was played.
-use attrs::Judge;
+//! Why a phase isn't played to its end.
 use import_lock::OpFault;
-use phase_actors::Told;
-use room_close::RoomEnded;
-
-/// What the phase has made, and by actor what it was told, in the order of its questions.
-#[derive(Drop)]
-pub struct PlayedRoom<J: Judge + Drop> {
-    pub ended: RoomEnded<J>,
-    pub told: Vec<Vec<Told>>,
-}
 
 /// Why a phase wasn't played to its end.
 #[derive(Clone, Copy, Debug, PartialEq, Eq, Drop)]

@@ -4,8 +4,8 @@ ghost use Rattle.birdcore_top.specs.Answer.{Answers};
 ghost use Rattle.birdcore_top.specs.Command.{command_of};
 ghost use Rattle.birdcore_top.specs.Outcome.{Outcome, IsRequired};
 
-use birdcore_top::Status;
-use birdcore_top::top::top;
+use crate::Status;
+use crate::top::top;
 use outside_io::{OpenGate, Shelf, SureShelf, SureSink};
 use std::alloc::Global;
 use std::random::RandomSource;

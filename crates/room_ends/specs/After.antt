@@ -12,13 +12,13 @@ use Rattle.phase_open.specs.declared.standing.StandingChannel.{StandingChannel}
 use Rattle.phase_open.specs.declared.standing.StandingProtocol.{StandingProtocol}
 use Rattle.phase_open.specs.declared.standing.StandingTable.{StandingTable}
 use Rattle.pipe_close.specs.declared.end.PipeEnded.{PipeEnded}
-use Rattle.room_close.specs.declared.ended.MemberEnded.{MemberEnded}
-use Rattle.room_close.specs.declared.ended.MemberEnded.TheVariants as ended
+use Rattle.room_ends.specs.declared.ended.MemberEnded.{MemberEnded}
+use Rattle.room_ends.specs.declared.ended.MemberEnded.TheVariants as ended
 use Rattle.room_open.specs.declared.standing.Standing.{Standing}
 use Rattle.room_open.specs.declared.standing.StandingMember.{StandingMember}
 use Rattle.room_open.specs.declared.standing.StandingMember.TheVariants as standing
 use Rattle.room_open.specs.declared.standing.StandingPipe.{StandingPipe}
-use Rattle.room_run.specs.declared.played.PlayedRoom.{PlayedRoom}
+use Rattle.room_ends.specs.declared.played.PlayedRoom.{PlayedRoom}
 
 pub record IsTableAfter (old : StandingTable) (phase : Phase) (new : StandingTable) : Type 0 where
   pub family : new.family ≡ old.family

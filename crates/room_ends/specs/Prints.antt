@@ -31,9 +31,9 @@ use Rattle.phase_actors.specs.Texts.{IsAnswer}
 use Rattle.phase_actors.specs.declared.actor.Told.{Told}
 use Rattle.phase_close.specs.declared.seats.SessionEnded.{SessionEnded}
 use Rattle.pipe_close.specs.declared.end.PipeEnded.{PipeEnded}
-use Rattle.room_close.specs.declared.ended.MemberEnded.{MemberEnded}
-use Rattle.room_close.specs.declared.ended.MemberEnded.TheVariants.{Own, Pipe}
-use Rattle.room_run.specs.declared.played.PlayedRoom.{PlayedRoom}
+use Rattle.room_ends.specs.declared.ended.MemberEnded.{MemberEnded}
+use Rattle.room_ends.specs.declared.ended.MemberEnded.TheVariants.{Own, Pipe}
+use Rattle.room_ends.specs.declared.played.PlayedRoom.{PlayedRoom}
 
 -- an operation by its record, with who asked for it: that of its line among the phase's
 abbrev pub turn_of_record : List Line → OpRecord → Turn

@@ -24,10 +24,10 @@ use Rattle.phase_actors.specs.Acting.{IsDoing}
 use Rattle.phase_actors.specs.declared.actor.Actor.{Actor}
 use Rattle.phase_close.specs.Rooms.{HandsView}
 use Rattle.phase_close.specs.Whole.{PassesView}
-use Rattle.room_close.specs.Synced.{IsSynced}
+use Rattle.room_ends.specs.Synced.{IsSynced}
 use Rattle.room_members.specs.Members.{room_seen}
 use Rattle.room_members.specs.declared.room.Room.{Room}
-use Rattle.room_run.specs.declared.played.PlayedRoom.{PlayedRoom}
+use Rattle.room_ends.specs.declared.played.PlayedRoom.{PlayedRoom}
 
 -- the start of the protocol of a number, which no actor asks for
 abbrev pub start_act : ℕ → Act
