@@ -16,6 +16,6 @@ mod player;
 mod protocol;
 mod ways;
 
-pub use made::passed_by;
+pub use made::{direction_gate, passed_by, table_family, take_list};
 pub use parts::{BodyParts, ExportParts, PipeParts, ProtocolParts, SourceParts, TableParts};
 pub use player::Core;

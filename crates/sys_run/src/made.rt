@@ -429,15 +429,15 @@ impl<J: Judge + Drop> Made<J> {
             import,
         } = parts;
         let from = self.channels.len();
-        let there = gate(
-            family_of(tables, primary),
+        let there = direction_gate(
+            table_family(tables, primary),
             number,
-            taken(alloc, passed, from),
+            take_list(alloc, passed, from),
         );
-        let back = gate(
-            family_of(tables, peer),
+        let back = direction_gate(
+            table_family(tables, peer),
             number,
-            taken(alloc, passed, from + 1),
+            take_list(alloc, passed, from + 1),
         );
         let name_there = copied(alloc, name.as_slice(), b".export")?;
         let name_back = copied(alloc, name.as_slice(), b".import")?;
@@ -517,7 +517,7 @@ fn copied(alloc: Global, name: &[u8], more: &[u8]) -> Result<Seq<u8>, OutOfMemor
 }
 
 /// The gate of a pipe's direction, which takes the sources that it passes.
-fn gate(family: Family, number: u32, passed: Vec<u32>) -> ExportSpec
+pub fn direction_gate(family: Family, number: u32, passed: Vec<u32>) -> ExportSpec
     ensures { result ≡ record {
       family = family;
       own = number;
@@ -538,7 +538,7 @@ fn gate(family: Family, number: u32, passed: Vec<u32>) -> ExportSpec
 }
 
 /// The family of a table, and IPv4 of one that isn't there.
-fn family_of(tables: &[TableParts], table: usize) -> Family
+pub fn table_family(tables: &[TableParts], table: usize) -> Family
     ensures { result ≡ family_or_first (family_at (map table_seen tables.now) table) }
 {
     match tables.get(table) {
@@ -548,7 +548,7 @@ fn family_of(tables: &[TableParts], table: usize) -> Family
 }
 
 /// Takes the list of a place out, which is empty behind it; none of a place that isn't there.
-fn taken(alloc: Global, passed: &mut Vec<Vec<u32>>, place: usize) -> Vec<u32>
+pub fn take_list(alloc: Global, passed: &mut Vec<Vec<u32>>, place: usize) -> Vec<u32>
     ensures list { result.items ≡ passed_at passed.old.items place }
     ensures others { (c : ℕ) → (c ≡ place → ⊥)
         → passed_at passed.new.items c ≡ passed_at passed.old.items c }

@@ -15,11 +15,11 @@ returns-clause-first g c = λ lists left.
     let v = g.J.Judge.verdict in
     let n = c.args.channel in
     let number = c.args.number in
-    let there = c.taken.ensures.list ∙ left n (omega arith) in
-    let here = c.taken-2.ensures.list ∙ c.taken.ensures.others (n + 1) (λ e. omega (arith, e)) ∙ left (n + 1) (omega arith) in
+    let there = c.take_list.ensures.list ∙ left n (omega arith) in
+    let here = c.take_list-2.ensures.list ∙ c.take_list.ensures.others (n + 1) (λ e. omega (arith, e)) ∙ left (n + 1) (omega arith) in
     let tables = map table_seen c.args.tables.now in
-    let out_gate = gate_is c.gate-there.result c.family_of.result (family_or_first (family_at tables c.args.pipe.now.primary)) number c.taken.result.items (lists n) c.gate-there.ensures c.family_of.ensures there in
-    let back_gate = gate_is c.gate-here.result c.family_of-2.result (family_or_first (family_at tables c.args.pipe.now.peer)) number c.taken-2.result.items (lists (n + 1)) c.gate-here.ensures c.family_of-2.ensures here in
+    let out_gate = gate_is c.direction_gate-there.result c.table_family.result (family_or_first (family_at tables c.args.pipe.now.primary)) number c.take_list.result.items (lists n) c.direction_gate-there.ensures c.table_family.ensures there in
+    let back_gate = gate_is c.direction_gate-here.result c.table_family-2.result (family_or_first (family_at tables c.args.pipe.now.peer)) number c.take_list-2.result.items (lists (n + 1)) c.direction_gate-here.ensures c.table_family-2.ensures here in
     record {
       primary = refl;
       peer = refl;
@@ -30,4 +30,4 @@ returns-clause-first g c = λ lists left.
 
 pub returns-clause-left : goal.returns-clause-left
 returns-clause-left g c = λ lists left d w.
-    c.taken-2.ensures.others d (λ e. omega (arith, e, w)) ∙ c.taken.ensures.others d (λ e. omega (arith, e, w)) ∙ left d (omega (arith, w))
+    c.take_list-2.ensures.others d (λ e. omega (arith, e, w)) ∙ c.take_list.ensures.others d (λ e. omega (arith, e, w)) ∙ left d (omega (arith, w))

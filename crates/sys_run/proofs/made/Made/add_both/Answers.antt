@@ -26,13 +26,13 @@ returns-clause-adds g c = λ lists left.
       added = there ∷ back ∷ [];
       channels = second.channels ∙ ap (λ (l : List (Channel g.row.J.Denot)). l ++ back ∷ []) first.channels ∙ append_assoc old.channels.items (there ∷ []) (back ∷ []);
       are = (
-        direction_new v tables lists (length old.channels.items) c.args.number c.args.name.now (codes ".export") p.primary p.peer p.export c.gate-there.result c.family_of.result c.taken.result.items c.make-exporter.result
-            c.make-exporter.ensures c.gate-there.ensures c.family_of.ensures
-            (c.taken.ensures.list ∙ left n (omega (arith, from)) ∙ ap lists from),
+        direction_new v tables lists (length old.channels.items) c.args.number c.args.name.now (codes ".export") p.primary p.peer p.export c.direction_gate-there.result c.table_family.result c.take_list.result.items c.make-exporter.result
+            c.make-exporter.ensures c.direction_gate-there.ensures c.table_family.ensures
+            (c.take_list.ensures.list ∙ left n (omega (arith, from)) ∙ ap lists from),
         (
-          direction_new v tables lists (length old.channels.items + 1) c.args.number c.args.name.now (codes ".import") p.peer p.primary p.import c.gate-back.result c.family_of-2.result c.taken-2.result.items c.make-importer.result
-              c.make-importer.ensures c.gate-back.ensures c.family_of-2.ensures
-              (c.taken-2.ensures.list ∙ c.taken.ensures.others (n + 1) (λ e. omega (arith, e)) ∙ left (n + 1) (omega (arith, from)) ∙ ap (λ m. lists (m + 1)) from),
+          direction_new v tables lists (length old.channels.items + 1) c.args.number c.args.name.now (codes ".import") p.peer p.primary p.import c.direction_gate-back.result c.table_family-2.result c.take_list-2.result.items c.make-importer.result
+              c.make-importer.ensures c.direction_gate-back.ensures c.table_family-2.ensures
+              (c.take_list-2.ensures.list ∙ c.take_list.ensures.others (n + 1) (λ e. omega (arith, e)) ∙ left (n + 1) (omega (arith, from)) ∙ ap (λ m. lists (m + 1)) from),
           tt,
         ),
       );
@@ -46,4 +46,4 @@ pub returns-clause-left : goal.returns-clause-left
 returns-clause-left g c = λ lists left d w.
     let n = c.len-from.result in
     let from : n ≡ length c.args.self.now.channels.items = omega (arith, c.len-from.ensures, c.args.self.now.channels.ok.0) in
-    c.taken-2.ensures.others d (λ e. omega (arith, e, w, from)) ∙ c.taken.ensures.others d (λ e. omega (arith, e, w, from)) ∙ left d (omega (arith, w))
+    c.take_list-2.ensures.others d (λ e. omega (arith, e, w, from)) ∙ c.take_list.ensures.others d (λ e. omega (arith, e, w, from)) ∙ left d (omega (arith, w))
