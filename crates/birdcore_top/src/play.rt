@@ -23,9 +23,9 @@ use std::hash::RandomState;
 use std::random::RandomSource;
 use sys_build::{ReadScript, build};
 
-/// Plays the script over the configuration, and writes the reports in this form: of each phase those to
-/// which the machine comes on the lines as they are written. The journal of each table holds so many
-/// changes.
+/// Plays the script over the configuration, and writes the reports in this form: of each phase
+/// those to which the machine comes on the lines as they are written. The journal of each table
+/// holds so many changes.
 ///
 /// With `OutOfMemory` the reports of the first phases may have been written, each whole. It comes
 /// too where there are no random bytes, by which keys that others choose are hashed.

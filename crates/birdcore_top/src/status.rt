@@ -16,8 +16,8 @@ pub enum Status {
     /// The files were read and accepted, and the whole report, or the `ok` of a check, was written.
     #[error("ok")]
     Ok,
-    /// The words are neither `check CONF`, perhaps with `SCRIPT` behind it, nor `play CONF SCRIPT` or
-    /// `run CONF SCRIPT`, perhaps with `--journal N` behind that and with `-q` as the last word.
+    /// The words are neither `check CONF`, perhaps with `SCRIPT` behind it, nor `play CONF SCRIPT`
+    /// or `run CONF SCRIPT`, perhaps with `--journal N` behind that and with `-q` as the last word.
     #[error("usage: birdcore COMMAND [CONF [SCRIPT]] [--journal N] [--number N] [-q]")]
     Usage,
     /// The configuration is refused at this place. Lines, and the bytes of a line, are counted from

@@ -21,9 +21,10 @@ use std::thread::Threads;
 /// name, and writes the report, phase by phase, in the form that they ask for; or checks a
 /// configuration, perhaps with a script over it, and writes `ok` where they are accepted.
 ///
-/// The reports of a play are those to which the machine comes on the lines as they are written. Those
-/// of a run are legal, and no more is promised of them: each actor has a thread of its own, which
-/// passes the gate. Where there is more than threads have room for, one thread does all lines.
+/// The reports of a play are those to which the machine comes on the lines as they are written.
+/// Those of a run are legal, and no more is promised of them: each actor has a thread of its own,
+/// which passes the gate. Where there is more than threads have room for, one thread does all
+/// lines.
 ///
 /// What it answers and what stands written are one record of eleven promises (`specs/Answered`).
 /// Want of memory may come in place of any answer; where a script is to be played or run, also for

@@ -39,8 +39,9 @@ pub(crate) enum Asked<'a> {
     },
 }
 
-/// What the words ask for: `check CONF`, `check CONF SCRIPT`, `play CONF SCRIPT` or `run CONF SCRIPT`,
-/// of these two perhaps with `--journal N` behind it, and perhaps with `-q` as the last word.
+/// What the words ask for: `check CONF`, `check CONF SCRIPT`, `play CONF SCRIPT` or `run CONF
+/// SCRIPT`, of these two perhaps with `--journal N` behind it, and perhaps with `-q` as the last
+/// word.
 pub(crate) fn asked_by(words: &[String]) -> Option<Asked<'_>>
     ensures { MatchOption result (command_of words.now ≡ None)
         (λ asked. command_of words.now ≡ Some (command_asked asked)) }

@@ -1,7 +1,7 @@
 //! What `check` answers and writes.
 //!
-//! An input is `CONF @@ SCRIPT`, the two files' texts, or `CONF` alone; `none` stands for a file that
-//! isn't there.
+//! An input is `CONF @@ SCRIPT`, the two files' texts, or `CONF` alone; `none` stands for a file
+//! that isn't there.
 use crate::plays::{done, files_with, status_of, text_of};
 use birdcore_top::Status;
 use outside_io::MemFile;

@@ -1,5 +1,5 @@
-//! Tries plays, runs, checks and queries that files of cases hold: what the program answers to each,
-//! and which report or reply it writes.
+//! Tries plays, runs, checks and queries that files of cases hold: what the program answers to
+//! each, and which report or reply it writes.
 #![tactic(auto)]
 
 mod checks;

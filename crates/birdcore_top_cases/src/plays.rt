@@ -2,8 +2,8 @@
 //!
 //! An input is `CONF @@ SCRIPT`, the two files' texts; `none` stands for a file that isn't there.
 //! Where the files lie beside the table it is `CONF SCRIPT`, their names, and what stands behind
-//! them is given to the command behind its three words. What is refused is checked too, with the same
-//! answer, and what is played is accepted by a check.
+//! them is given to the command behind its three words. What is refused is checked too, with the
+//! same answer, and what is played is accepted by a check.
 use crate::checks::{also_checked, checked_so};
 use birdcore_top::Status;
 use birdcore_top::top::top;

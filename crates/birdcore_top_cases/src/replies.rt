@@ -1,7 +1,7 @@
 //! What a query is answered.
 //!
-//! An input is `CONF SCRIPT @@ QUERY`: the names of two files, and what stands behind `show route` in
-//! a line behind the script; `-` stands for nothing.
+//! An input is `CONF SCRIPT @@ QUERY`: the names of two files, and what stands behind `show route`
+//! in a line behind the script; `-` stands for nothing.
 use crate::plays::{bad_line, done, put_file, status_of, text_of};
 use birdcore_top::Status;
 use outside_io::MemFile;

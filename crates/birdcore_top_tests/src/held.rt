@@ -23,10 +23,10 @@ const SCRIPT: &str =
 /// For how many turns an update is held at most.
 const TURNS: u32 = 10_000_000;
 
-/// Holds the second update, which has its table's lock, until entries were taken three times. Of the
-/// first update's entry two channels make two takes, a pipe's direction for one, so a take that waits
-/// for that lock, or for the thread that updates, makes the gate give up. Where one thread does all
-/// lines, no update is held.
+/// Holds the second update, which has its table's lock, until entries were taken three times. Of
+/// the first update's entry two channels make two takes, a pipe's direction for one, so a take that
+/// waits for that lock, or for the thread that updates, makes the gate give up. Where one thread
+/// does all lines, no update is held.
 #[derive(Drop)]
 struct HoldGate {
     updates: AtomicU64,

@@ -1,5 +1,5 @@
-//! Tests of `birdcore_top` whose calls are shaped in code: faults in turn, other words, the status, a
-//! gate that holds an update.
+//! Tests of `birdcore_top` whose calls are shaped in code: faults in turn, other words, the status,
+//! a gate that holds an update.
 #![tactic(auto)]
 
 #[cfg(test)]

@@ -1,5 +1,5 @@
-//! Routes in tables of cases: how a case writes one (`read_route`), and what a filter changed of one
-//! (`write_changes`).
+//! Routes in tables of cases: how a case writes one (`read_route`), and what a filter changed of
+//! one (`write_changes`).
 #![tactic(auto)]
 
 mod changes;

@@ -5,8 +5,8 @@
 //! how many there were. A case more is a line of a text file more: nothing has to be proved for it.
 //!
 //! A line is `EXPECTED | INPUT`. Blank lines and lines that begin with `#` are passed over. What
-//! stands behind the first ` | ` is the input, to the line's end; the module `escape` says how bytes
-//! are written there that a line can't hold.
+//! stands behind the first ` | ` is the input, to the line's end; the module `escape` says how
+//! bytes are written there that a line can't hold.
 #![tactic(auto)]
 
 mod escape;

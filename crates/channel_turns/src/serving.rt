@@ -62,8 +62,8 @@ fn turn_often<R: Wait, G: Gate, J: Judge>(
 }
 
 /// Has a channel do up to 64 turns under its lock, until there is nothing to do. Tells whether
-/// there was anything. Where memory is refused, the channel is as it was before the turn that wanted
-/// it.
+/// there was anything. Where memory is refused, the channel is as it was before the turn that
+/// wanted it.
 pub fn serve_channel<R: Wait, G: Gate, J: Judge + Drop, P: Sends>(
     alloc: Global,
     rt: &R,

@@ -38,8 +38,8 @@ fn is_feeding<J: Judge>(state: &ExportState<J>) -> bool
     state.is_running() & goes_on
 }
 
-/// Pushes the first key that is marked. A neighbour takes all that it is sent, which the log has, so
-/// memory alone may be wanted.
+/// Pushes the first key that is marked. A neighbour takes all that it is sent, which the log has,
+/// so memory alone may be wanted.
 fn push<J: Judge>(state: &mut ExportState<J>) -> Result<Did, OutOfMemory>
     requires held { IsHeld J.verdict state.old }
     ensures goes { GoesOn J.verdict state.old state.new }
@@ -63,7 +63,8 @@ fn push<J: Judge>(state: &mut ExportState<J>) -> Result<Did, OutOfMemory>
 
 /// A turn of a channel that is not being fed, and what it did: it takes the next entry, and where
 /// there is none it pushes the first key that is marked. It wants no table, so it serves a channel
-/// whose table is closed too. Where memory is refused, what the turn was to do is left for the next.
+/// whose table is closed too. Where memory is refused, what the turn was to do is left for the
+/// next.
 pub fn read_or_push<J: Judge>(alloc: Global, state: &mut ExportState<J>) -> Result<Did, OutOfMemory>
     requires kind { IsOfKind J.verdict false state.old }
     requires fed { is_feeding state.old ≡ false }
@@ -80,10 +81,10 @@ pub fn read_or_push<J: Judge>(alloc: Global, state: &mut ExportState<J>) -> Resu
     push(state)
 }
 
-/// A turn of a channel to a neighbour, and what it did. Where a feed goes on it reads up to 256 nets
-/// of the table. Else it takes the next entry, and where there is none it pushes the first key that
-/// is marked. A channel that is down does nothing. Where memory is refused, what the turn was to do
-/// is left for the next.
+/// A turn of a channel to a neighbour, and what it did. Where a feed goes on it reads up to 256
+/// nets of the table. Else it takes the next entry, and where there is none it pushes the first key
+/// that is marked. A channel that is down does nothing. Where memory is refused, what the turn was
+/// to do is left for the next.
 pub fn turn_channel<R: Wait, J: Judge>(
     alloc: Global,
     rt: &R,

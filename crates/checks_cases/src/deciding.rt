@@ -1,5 +1,5 @@
-//! What a configuration's filter says of a route: the policy of its own that its first protocol has,
-//! or else the last filter by name.
+//! What a configuration's filter says of a route: the policy of its own that its first protocol
+//! has, or else the last filter by name.
 ghost use Rattle.std.specs.Prelude.{◌<◌, length};
 ghost use Rattle.conf_system.specs.Coded.{AllCanRun, HasCode, PolicyCanRun, ProtocolCanRun};
 ghost use Rattle.conf_system.specs.Seen.{system_of};

@@ -14,8 +14,8 @@ use filt_meaning::Scope;
 use indexmap::{IndexMap, IndexSet};
 
 /// What a configuration declares before one of its statements: what filters can name and all other
-/// names, the tables and the filters by their numbers, how many protocols there are, and the pipes among
-/// them.
+/// names, the tables and the filters by their numbers, how many protocols there are, and the pipes
+/// among them.
 #[derive(Drop)]
 pub struct Declared {
     pub scope: Scope,

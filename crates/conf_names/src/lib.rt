@@ -2,8 +2,8 @@
 //! configurations see it: names, those of protocols without one (`own_name`), tables and what pipes
 //! join, numbers and values of constants; and the first of several refusals.
 //!
-//! The definitions are `specs/Known`, `Names`, `Joints`, `Constants` and `Refusals`. Which statements
-//! and protocols are refused stands in `conf_rules`.
+//! The definitions are `specs/Known`, `Names`, `Joints`, `Constants` and `Refusals`. Which
+//! statements and protocols are refused stands in `conf_rules`.
 #![tactic(auto)]
 
 pub mod constants;

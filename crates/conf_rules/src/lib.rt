@@ -2,8 +2,8 @@
 //! (`specs/Statements`), and which of its refusals comes first.
 //!
 //! What is declared stands in conf_names, the rules of filters are those of filt_types and
-//! filt_rules. A statement's refusals are gathered, names, types, weights and numbers in all that is
-//! written, what is missing or of the wrong family by the options that count.
+//! filt_rules. A statement's refusals are gathered, names, types, weights and numbers in all that
+//! is written, what is missing or of the wrong family by the options that count.
 #![tactic(auto)]
 
 mod bgp;

@@ -1,5 +1,5 @@
-//! What holds of the filters of a configuration in which nothing is refused. The functions are empty:
-//! their clauses are the laws.
+//! What holds of the filters of a configuration in which nothing is refused. The functions are
+//! empty: their clauses are the laws.
 
 ghost use Rattle.std.specs.Prelude.{◌≡◌, ◌≤◌, ◌++◌, ◌∷◌, ℕ, All, List, [], None, Contains};
 ghost use Rattle.attrs.specs.declared.attributes.Attrs.{Attrs};
@@ -139,8 +139,8 @@ pub fn accepted_conditions_are_never_stuck()
     filters_end_within_their_weight();
 }
 
-/// The code of a filter over what an accepted configuration declares costs 50,000,000 instructions at
-/// most, five for each step that a filter may weigh; so does that of each filter by name.
+/// The code of a filter over what an accepted configuration declares costs 50,000,000 instructions
+/// at most, five for each step that a filter may weigh; so does that of each filter by name.
 pub fn compiled_filters_end_within_their_weight()
     ensures own { (held : Held) (code : Code) (f : TFilter) (draft : Draft) → HasCode held code
         → CanRunOver held f → CostsItsSteps f.sorts.items f.body.items draft.code.items

@@ -6,9 +6,9 @@
 //! (`specs/Conditions`). Filters run as code: `System::code` compiles the functions and the filters
 //! by name, once each (`Code`). Policies, filters and conditions are judges of one type over it
 //! (`Passes`): `System::passes` gives the one of a channel's or a pipe's policy, `System::filter`
-//! that of a filter. What holds of each accepted configuration are the `laws`, and of the filters of a
-//! configuration in which nothing is refused the `filter_laws` (`specs/Written`): none of them is
-//! ever stuck, so what `Passes` runs isn't either. That a text says one thing at most stands in
+//! that of a filter. What holds of each accepted configuration are the `laws`, and of the filters
+//! of a configuration in which nothing is refused the `filter_laws` (`specs/Written`): none of them
+//! is ever stuck, so what `Passes` runs isn't either. That a text says one thing at most stands in
 //! `accepted_laws`.
 #![tactic(auto)]
 

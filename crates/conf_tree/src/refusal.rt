@@ -52,8 +52,8 @@ fn told(text: &[u8], spot: Spot, fault: SyntaxFault) -> ConfFault
     }
 }
 
-// The bytes of the token that stands next, where it is a word without quotes, unless the words begin
-// with the sign of `else` and a colon.
+// The bytes of the token that stands next, where it is a word without quotes, unless the words
+// begin with the sign of `else` and a colon.
 fn word_bytes<'a>(text: &'a [u8], spot: Spot, rest: &[Word]) -> Option<&'a [u8]>
     requires { IsSpot text.now spot }
     ensures { (tokens : List Token) → LexesFrom text.now spot tokens
@@ -133,8 +133,8 @@ fn leave_last(words: &mut Vec<Word>, from: usize)
 }
 
 /// The refusal of words of which the one in this place can't stand there, in the statement that
-/// begins in the place `from`. The list of the words serves to try others in its place, behind those
-/// of the statement alone, so that no copy is made, and is of no use behind the call.
+/// begins in the place `from`. The list of the words serves to try others in its place, behind
+/// those of the statement alone, so that no copy is made, and is of no use behind the call.
 pub fn stopped(
     alloc: Global,
     text: &[u8],

@@ -1,5 +1,5 @@
-//! The words of a text that the grammar of configurations reads, and the way back from a word to its
-//! place in the text.
+//! The words of a text that the grammar of configurations reads, and the way back from a word to
+//! its place in the text.
 //!
 //! What logs and device blocks hold says nothing and is left out (`specs/Significant`).
 //! `walked_words` makes the list of all other words as the text is walked, and keeps marks of the

@@ -164,8 +164,8 @@ fn note(marks: &mut Vec<Mark>, mark: Mark)
     }
 }
 
-/// The words that the grammar reads, made as the text is walked: its tokens aren't kept. `Bad` is as
-/// `conf_scan::lex` has it.
+/// The words that the grammar reads, made as the text is walked: its tokens aren't kept. `Bad` is
+/// as `conf_scan::lex` has it.
 pub fn walked_words(alloc: Global, text: &[u8]) -> Result<Walked, LexFault>
     requires short { length text.now < 2 ^ 32 }
     ensures words { IfOk result (λ walked. AreWordsOf text.now walked.words.items) }
@@ -238,8 +238,8 @@ fn words_left(left: usize, significant: bool) -> Option<usize>
     }
 }
 
-/// Where the word in this place begins, of those that the grammar reads, by a walk from a mark before
-/// it; behind the last one where the text has no more tokens.
+/// Where the word in this place begins, of those that the grammar reads, by a walk from a mark
+/// before it; behind the last one where the text has no more tokens.
 pub fn spot_of(text: &[u8], place: usize, from: Mark) -> Spot
     requires short { length text.now < 2 ^ 32 }
     requires lexed { (tokens : List Token) × Lexes 0 text.now tokens }

@@ -140,9 +140,9 @@ pub fn levels_give_ways()
     ensures { (rules : Rules) → 1 ≤ rules.tables → HasWays rules → AreWays rules }
 {}
 
-/// A direction of a pipe that is a bridge, as each pipe of a forest is, passes the sources that come
-/// to the table that it reads, but for those that come there by the same pipe: so nothing goes back
-/// by the pipe that it came by, and all else goes on.
+/// A direction of a pipe that is a bridge, as each pipe of a forest is, passes the sources that
+/// come to the table that it reads, but for those that come there by the same pipe: so nothing goes
+/// back by the pipe that it came by, and all else goes on.
 pub fn bridges_keep_what_comes_by_them()
     ensures { (rules : Rules) (d e num : ℕ) → HasWays rules → AreWithin rules
         → IsBridge rules d e

@@ -49,9 +49,9 @@ pub fn exporters_go_by_the_rules()
     levels_give_ways();
 }
 
-/// Each direction of a pipe that is a bridge, as each pipe of a forest is, keeps the routes that come
-/// by the pipe itself to the table that it reads, and passes those of all other sources that come
-/// there.
+/// Each direction of a pipe that is a bridge, as each pipe of a forest is, keeps the routes that
+/// come by the pipe itself to the table that it reads, and passes those of all other sources that
+/// come there.
 pub fn bridges_keep_their_own()
     ensures { (setup : Setup) (number : ℕ) (p : Pipe) (d e num : ℕ) → IsSetup setup
         → pipe_at setup number ≡ Some p → IsBridgeOf setup number p

@@ -16,10 +16,10 @@ use std::sync::Wait;
 use table_shared::Table;
 
 impl<J: Judge> ExportState<J> {
-    /// Reads the next nets of the table for the feed that goes on, at most so many, as they stand at
-    /// the head, and tells whether the feed still goes on. A channel that is down is not fed, nor is
-    /// one that withdraws what stands, or whose feed is done. Where memory is refused, they are left
-    /// for the next call.
+    /// Reads the next nets of the table for the feed that goes on, at most so many, as they stand
+    /// at the head, and tells whether the feed still goes on. A channel that is down is not fed,
+    /// nor is one that withdraws what stands, or whose feed is done. Where memory is refused, they
+    /// are left for the next call.
     pub fn feed_turn<R: Wait>(
         &mut self,
         rt: &R,

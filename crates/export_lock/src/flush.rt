@@ -16,8 +16,8 @@ use export_core::{Outlet, PushFault, Pushed};
 impl<J: Judge> ExportState<J> {
     /// Withdraws the first of what stands still, as a pipe's direction; `Nothing` comes once all is
     /// withdrawn. So the lock may be given back and taken anew between two turns. A direction that
-    /// is down has nothing to withdraw. Each fault is the outlet's, or want of memory, and all is as
-    /// before then.
+    /// is down has nothing to withdraw. Each fault is the outlet's, or want of memory, and all is
+    /// as before then.
     pub fn flush_turn<O: Outlet>(&mut self, outlet: &mut O) -> Result<Pushed, PushFault>
         requires held { IsHeldDirection J.verdict self.old }
         requires takes { (num : ℕ) → has_num self.old.exporter.spec num ≡ true

@@ -51,7 +51,8 @@ pub fn keys_are_read<J: Judge>()
 {}
 
 /// What was sent of a net since the channel came up is, in order, what the channel makes of the
-/// net's best routes at rising positions, in each history that begins with what the cursor has seen.
+/// net's best routes at rising positions, in each history that begins with what the cursor has
+/// seen.
 pub fn sends_are_of_best_routes<J: Judge>()
     ensures { (key : ExportTerms) (state : ExportState J) (history : List JEntry) (net : Net)
         (h : ℕ) → IsExports J.verdict key state
@@ -66,10 +67,10 @@ pub fn sends_are_of_best_routes<J: Judge>()
     sends_are_right();
 }
 
-/// What a pipe's direction has made stays where neither its log nor its port changes. And it follows
-/// the log: a value that is sent enters its change, unless
-/// it only sends again what stands, and a key that a flush withdraws enters its withdrawal. Behind
-/// the last of them the port has made what the log says that has gone down.
+/// What a pipe's direction has made stays where neither its log nor its port changes. And it
+/// follows the log: a value that is sent enters its change, unless it only sends again what stands,
+/// and a key that a flush withdraws enters its withdrawal. Behind the last of them the port has
+/// made what the log says that has gone down.
 pub fn lanes_follow_their_logs<J: Judge>()
     ensures reads { (done : List Key) (key : LaneTerms) (old new : PipeLane J)
         → new.port ≡ old.port → new.state.exporter.log ≡ old.state.exporter.log
@@ -142,8 +143,8 @@ pub fn lanes_enter_news<J: Judge>()
     a_port_alone_changes_its_sources();
 }
 
-/// The marks in a channel's log are those of the phase that its stamp has recorded, in order, behind
-/// those of before, once the stamp has seen the whole list.
+/// The marks in a channel's log are those of the phase that its stamp has recorded, in order,
+/// behind those of before, once the stamp has seen the whole list.
 pub fn marks_are_those_of_stamps<J: Judge>()
     ensures { (every : Bool) (key : ExportTerms) (state : ExportState J)
         (stamp : TableId × Seat ℕ) → IsExporting J.verdict every key state
@@ -153,8 +154,8 @@ pub fn marks_are_those_of_stamps<J: Judge>()
         ≡ items_of_stamp stamp ++ without_sends key.log }
 {}
 
-/// Of a pipe's direction that is down nothing stands, by its log and by what it entered in the table
-/// that it writes: before it went down it withdrew all that stood.
+/// Of a pipe's direction that is down nothing stands, by its log and by what it entered in the
+/// table that it writes: before it went down it withdrew all that stood.
 pub fn lanes_that_are_down_leave_nothing<J: Judge>()
     ensures { (done : List Key) (key : LaneTerms) (lane : PipeLane J)
         → IsLane J.verdict done key lane

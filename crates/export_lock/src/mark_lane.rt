@@ -57,10 +57,11 @@ impl<J: Judge> ExportState<J> {
 }
 
 impl<J: Judge> PipeLane<J> {
-    /// The direction takes a mark, which is recorded under its own stamp: it comes up at the head of
-    /// the table that it reads, goes down, or is to send all anew. It goes down once `flush_turn`
-    /// has answered `Nothing`, under the same hold of the lock. What its port has made stays. Where
-    /// memory is refused, nothing is recorded, and the cursor alone may have seen more.
+    /// The direction takes a mark, which is recorded under its own stamp: it comes up at the head
+    /// of the table that it reads, goes down, or is to send all anew. It goes down once
+    /// `flush_turn` has answered `Nothing`, under the same hold of the lock. What its port has made
+    /// stays. Where memory is refused, nothing is recorded, and the cursor alone may have seen
+    /// more.
     pub fn mark_turn<R: Wait>(
         &mut self,
         rt: &R,

@@ -20,9 +20,9 @@ use table_shared::laws::a_port_alone_changes_its_sources;
 
 impl<J: Judge> PipeLane<J> {
     /// Sends the first key that is marked, where its value is news, into the table of the port. A
-    /// direction that is down has nothing to send, nor one that withdraws what stands. `Blocked` and
-    /// `Ended` are the table's, and like `Memory` they leave all to be sent as it was. The sources
-    /// are those of what is played, by number.
+    /// direction that is down has nothing to send, nor one that withdraws what stands. `Blocked`
+    /// and `Ended` are the table's, and like `Memory` they leave all to be sent as it was. The
+    /// sources are those of what is played, by number.
     pub fn push_turn<'a, R: Wait, G: Gate>(
         self,
         rt: &'a R,
@@ -55,10 +55,10 @@ impl<J: Judge> PipeLane<J> {
         (PipeLane { state, port }, did)
     }
 
-    /// Withdraws the first of what stands still from the table of the port; `Nothing` comes once all
-    /// is withdrawn. So the lock may be given back and taken anew between two turns. A direction
-    /// that is down has nothing to withdraw. `Blocked` and `Ended` are the table's, and like
-    /// `Memory` they leave all to be withdrawn as it was.
+    /// Withdraws the first of what stands still from the table of the port; `Nothing` comes once
+    /// all is withdrawn. So the lock may be given back and taken anew between two turns. A
+    /// direction that is down has nothing to withdraw. `Blocked` and `Ended` are the table's, and
+    /// like `Memory` they leave all to be withdrawn as it was.
     pub fn flush_turn<'a, R: Wait, G: Gate>(
         self,
         rt: &'a R,

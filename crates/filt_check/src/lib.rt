@@ -2,8 +2,8 @@
 //! its names, its limits or its weight (`specs/Answers`), or a tree in which each name is a place,
 //! and which means what the source does.
 //!
-//! Names become places without a word of sorts (`filt_resolve`), so that a tree means the same as its
-//! source whatever its types.
+//! Names become places without a word of sorts (`filt_resolve`), so that a tree means the same as
+//! its source whatever its types.
 #![tactic(auto)]
 
 mod blocks;

@@ -39,7 +39,8 @@ pub enum Effect<'a> {
     Default(Sort),
     /// Puts what an operator gives of the top operand, which it takes.
     One(OfOne),
-    /// Puts what an operator gives of the two top operands, which it takes; the right one is on top.
+    /// Puts what an operator gives of the two top operands, which it takes; the right one is on
+    /// top.
     Two(OfTwo),
     /// Takes the top operand away.
     Discard,
@@ -91,18 +92,20 @@ pub enum Instr<'a> {
     JumpIf(bool, usize),
     /// Jumps where the answer is this one.
     JumpIfAsked(bool, Question<'a>, usize),
-    /// Behind the left side of `&&` or `||`: where that decides it stays, and the code jumps; else it
-    /// is taken away.
+    /// Behind the left side of `&&` or `||`: where that decides it stays, and the code jumps; else
+    /// it is taken away.
     JumpIfDecided(LogicalOp, usize),
-    /// Takes the top operand, and jumps over as many instructions as there are arms before the first
-    /// one whose labels have it, or over as many as there are arms. Each of those behind is a jump.
+    /// Takes the top operand, and jumps over as many instructions as there are arms before the
+    /// first one whose labels have it, or over as many as there are arms. Each of those behind is a
+    /// jump.
     Switch(&'a [TArm<TStmt>]),
     /// Takes the top operand, a list, and runs the code behind it for each element, which is one
     /// variable more; then it jumps. The body has its own operands.
     ForEach(usize),
     /// The end of a loop's body.
     EndTurn,
-    /// Calls a function, by its number, with so many operands, which it takes, and puts what it gives.
+    /// Calls a function, by its number, with so many operands, which it takes, and puts what it
+    /// gives.
     Call(usize, usize),
     /// The same, of which nothing is put.
     Perform(usize, usize),

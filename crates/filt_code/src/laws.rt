@@ -10,8 +10,8 @@ ghost use Rattle.filt_code.specs.Codes.{Setting};
 ghost use Rattle.filt_code.specs.Worked.{asks_the_med, divides, pairs, passes_the_right_side, prepends, puts_the_left_side, says, turns_over_the_path, wraps};
 
 /// Codes that are worked by hand, and what they say: of nothing there is no verdict; faults are the
-/// first ones, and of the kind that they are; what the left side decides, the right one doesn't reach;
-/// a loop's variables round its body are kept from turn to turn.
+/// first ones, and of the kind that they are; what the left side decides, the right one doesn't
+/// reach; a loop's variables round its body are kept from turn to turn.
 pub fn worked_codes()
     ensures nothing { (s : Setting) (attrs : Attrs)
         → says s [] attrs ≡ verdicts.Reject (Some faults.NoVerdict) }

@@ -20,8 +20,8 @@ use conf_ast::filters::LogicalOp;
 use filt_code::{Instr, Question};
 use filt_meaning::{TExpr, TTest};
 
-/// What jumps where a condition's truth value is this one, to the place that has so much code from it
-/// on. What `&&`, `||` and `!` join isn't put: each of their sides jumps by itself.
+/// What jumps where a condition's truth value is this one, to the place that has so much code from
+/// it on. What `&&`, `||` and `!` join isn't put: each of their sides jumps by itself.
 #[cycle(conditions)]
 pub(crate) fn condition<'a>(
     seen: &Seen<'_, 'a>,

@@ -18,9 +18,9 @@ use filt_code::{Draft, Instr, Routine};
 use filt_meaning::{Fixed, Sort, TFilter, TFunction, TStmt};
 use std::alloc::Global;
 
-/// The code of a filter, over the constants and the compiled functions of the scope, of which it sees
-/// the first. It comes to what the filter comes to, every fault included, and so does its verdict; and
-/// it costs no more than the filter takes, whatever functions cost.
+/// The code of a filter, over the constants and the compiled functions of the scope, of which it
+/// sees the first. It comes to what the filter comes to, every fault included, and so does its
+/// verdict; and it costs no more than the filter takes, whatever functions cost.
 pub fn compile<'a>(
     alloc: Global,
     constants: &'a [Fixed],

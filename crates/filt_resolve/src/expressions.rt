@@ -141,9 +141,9 @@ fn called(text: &[u8], scope: &Scope, name: &Name, arguments: Vec<TExpr>) -> TEx
 
 // ---- expressions
 
-/// The tree of an expression over variables that stand in the frame in the order of these names. What
-/// stands for nothing is stuck in it, so that a tree comes of each expression. Refused alone where
-/// memory is.
+/// The tree of an expression over variables that stand in the frame in the order of these names.
+/// What stands for nothing is stuck in it, so that a tree comes of each expression. Refused alone
+/// where memory is.
 #[cycle(resolve)]
 pub fn resolve(
     alloc: Global,

@@ -211,8 +211,8 @@ pub fn function(text: &[u8], scope: &Scope, name: &Name) -> Option<usize>
     scope.functions.get_index_of(name.bytes(text))
 }
 
-/// What a name stands for as a value: a variable, or a constant where there is none of that name; it
-/// is stuck where there is neither.
+/// What a name stands for as a value: a variable, or a constant where there is none of that name;
+/// it is stuck where there is neither.
 pub fn named(text: &[u8], scope: &Scope, names: &Names<'_>, name: &Name) -> TExpr
     ensures meaning { (around : Around) → trees.expr result (tables_of around scope.now)
         ≡ named name.now (context_of text.now around scope.now names.now) }

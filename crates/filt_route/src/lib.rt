@@ -1,5 +1,5 @@
-//! The route of a filter that runs, and the conditions and operators over it: its attributes, as the
-//! filter has left them so far (`Running`), and what `filt_code` asks of them.
+//! The route of a filter that runs, and the conditions and operators over it: its attributes, as
+//! the filter has left them so far (`Running`), and what `filt_code` asks of them.
 //!
 //! What the route holds is lent until the filter changes it. Each call answers what the definitions
 //! of `filt_code/specs/Codes` give, or wants memory.

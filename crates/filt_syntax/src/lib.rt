@@ -4,9 +4,9 @@
 //! The grammar and the parsers of expressions stand in `expr_syntax`. What the trees of statements
 //! are of stands in `specs/StatementView`, refusals in `specs/Parse` and `specs/Tokens`. `parts`
 //! gives the parsers of some forms to the grammars that hold them. Not here: the declarations of
-//! filters and functions and all other statements of a configuration (`conf_tree`), names, types and
-//! what filters do (`filt_types`, `filt_meaning`), and the laws of the grammar and its trees, which
-//! nothing that runs needs (`syntax_laws`).
+//! filters and functions and all other statements of a configuration (`conf_tree`), names, types
+//! and what filters do (`filt_types`, `filt_meaning`), and the laws of the grammar and its trees,
+//! which nothing that runs needs (`syntax_laws`).
 #![tactic(auto)]
 
 mod block_words;

@@ -1,4 +1,5 @@
-//! What the operators of the filter language give at values, as code (BIRD User's Guide, "Filters").
+//! What the operators of the filter language give at values, as code (BIRD User's Guide,
+//! "Filters").
 //!
 //! Each operator is a function of values of any sorts: where it doesn't take theirs it is `Stuck`,
 //! which is no fault of a filter, since what is refused for its types isn't run. Faults are those

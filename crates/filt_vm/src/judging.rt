@@ -19,13 +19,13 @@ use filt_route::{Halt, Running, Surroundings};
 use std::alloc::Global;
 
 /// What the code of a filter says of a route of a net, over functions of which it may call the
-/// first: `Accept` with the attributes as it leaves them, or `Reject`, with the fault where there was
-/// one (BIRD User's Guide, "Filters"). Functions may call each other to any depth: what waits for
-/// them lies on the heap.
+/// first: `Accept` with the attributes as it leaves them, or `Reject`, with the fault where there
+/// was one (BIRD User's Guide, "Filters"). Functions may call each other to any depth: what waits
+/// for them lies on the heap.
 ///
 /// The code is to be never stuck, so here is no answer for a value of a wrong sort, an operand that
-/// isn't there, or a variable or a function that there isn't. No set, no constant and no list that the
-/// filter doesn't change is copied. The `Err` says that memory was wanted.
+/// isn't there, or a variable or a function that there isn't. No set, no constant and no list that
+/// the filter doesn't change is copied. The `Err` says that memory was wanted.
 pub fn run(
     alloc: Global,
     code: &Draft<'_>,

@@ -95,8 +95,8 @@ pub(crate) fn end_seats<J: Judge + Drop>(
     }
 }
 
-/// Ends the port of a session, and its channel's cursor, in their table, which is among these at its
-/// number.
+/// Ends the port of a session, and its channel's cursor, in their table, which is among these at
+/// its number.
 pub fn end_session_at<J: Judge + Drop>(
     closings: &mut Vec<Closing>,
     session: SessionLeft<J>,

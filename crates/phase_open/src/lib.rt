@@ -1,5 +1,5 @@
-//! What stands between two phases with threads (`standing`), of tables and of protocols with routes of
-//! their own.
+//! What stands between two phases with threads (`standing`), of tables and of protocols with routes
+//! of their own.
 #![tactic(auto)]
 
 mod standing;

@@ -49,10 +49,10 @@ pub fn directions_know_their_sources()
     setups_are_as_asked();
 }
 
-/// Where the ports of a table have the sources that pipes bring, the port of a direction that writes
-/// the table has just those that it passes, and no other port has any of them. The port of a protocol
-/// that imports to the table has this protocol alone, as where there is no pipe. The table's journal
-/// begins with what stands there.
+/// Where the ports of a table have the sources that pipes bring, the port of a direction that
+/// writes the table has just those that it passes, and no other port has any of them. The port of a
+/// protocol that imports to the table has this protocol alone, as where there is no pipe. The
+/// table's journal begins with what stands there.
 pub fn each_source_has_one_port()
     ensures out { (setup : Setup) (number out back : ℕ) (protocol : Protocol) (pipe : Pipe)
         (stood : TableTerms) → IsSetup setup → protocol_at setup number ≡ Some protocol
@@ -77,8 +77,8 @@ pub fn each_source_has_one_port()
     setups_are_as_asked();
 }
 
-/// In the first phase of each setup all stands that a pipe's session begins with: the pipe is up, each
-/// direction is up at 0 and has sent nothing, and tables are empty.
+/// In the first phase of each setup all stands that a pipe's session begins with: the pipe is up,
+/// each direction is up at 0 and has sent nothing, and tables are empty.
 pub fn first_phases_have_pipes<J: Judge>()
     ensures pipes { (setup : Setup) (lines : List Line) (actors number : ℕ) (protocol : Protocol)
         (pipe : Pipe) → IsSetup setup → protocol_at setup number ≡ Some protocol
@@ -101,9 +101,9 @@ pub fn first_phases_have_pipes<J: Judge>()
     setups_are_as_asked();
 }
 
-/// Once a phase has ended, what is left of a pipe's direction is what the phase owes of it: its port
-/// has entered what the items of the phase say, and its marks are those that the pipe's operations
-/// signal.
+/// Once a phase has ended, what is left of a pipe's direction is what the phase owes of it: its
+/// port has entered what the items of the phase say, and its marks are those that the pipe's
+/// operations signal.
 pub fn directions_leave_what_is_owed<J: Judge>()
     ensures entered { (room : Room) (history : ℕ → List Change) (logs : ℕ → List LogItem)
         (entries : ℕ → List Entry) (said : ℕ → List JEntry) (p : Printed) (key : PipeTerms)

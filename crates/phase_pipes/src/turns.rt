@@ -28,8 +28,8 @@ impl<J: Judge + Drop, P: Phase + Sends> PipeSession<J, P> {
     /// down withdraws first all that stands of it. The helper is told of cursors that have no room
     /// for that. The sources are those of what is played, by number.
     ///
-    /// A fault that came before comes again, and nothing is done then. At `Memory` the operation may
-    /// not be recorded; else a direction has yet to take its mark.
+    /// A fault that came before comes again, and nothing is done then. At `Memory` the operation
+    /// may not be recorded; else a direction has yet to take its mark.
     pub fn operate<'a, R: Wait, G: Gate, H: Helper>(
         &'a self,
         rt: &R,

@@ -4,8 +4,8 @@
 //! stands then (`laws`); `session` has a protocol with its channel, if it has one, and opens their
 //! locks at the end; `turns` does an operation under its locks.
 //!
-//! As a phase begins `opened` has the seats of tables by protocol, by channel and by actor (`deals`);
-//! `begin` makes sessions of `parts`.
+//! As a phase begins `opened` has the seats of tables by protocol, by channel and by actor
+//! (`deals`); `begin` makes sessions of `parts`.
 #![tactic(auto)]
 
 mod begin;

@@ -43,8 +43,8 @@ impl Opened {
         })
     }
 
-    /// One table more, with a port for each protocol, a cursor for each channel, and a pass for each
-    /// actor. Where it refuses, for want of memory, nothing is said of what there is then.
+    /// One table more, with a port for each protocol, a cursor for each channel, and a pass for
+    /// each actor. Where it refuses, for want of memory, nothing is said of what there is then.
     pub fn add(
         &mut self,
         table: Table,

@@ -15,7 +15,8 @@ pub struct ProtocolPart<J: Judge> {
     pub port: Port,
 }
 
-/// Its channel to a neighbour as earlier phases left it, with its number, and its cursor of the table.
+/// Its channel to a neighbour as earlier phases left it, with its number, and its cursor of the
+/// table.
 #[derive(Drop)]
 pub struct ChannelPart<J: Judge> {
     pub number: u32,

@@ -72,8 +72,8 @@ impl<J: Judge + Drop, P: Phase + Sends> Session<J, P> {
         }
     }
 
-    /// The same, but where the operation left the channel as it was nothing is to be marked, and the
-    /// channel's lock isn't waited for.
+    /// The same, but where the operation left the channel as it was nothing is to be marked, and
+    /// the channel's lock isn't waited for.
     fn mark<R: Wait>(
         &self,
         rt: &R,
@@ -205,14 +205,15 @@ impl<J: Judge + Drop, P: Phase + Sends> Session<J, P> {
         }
     }
 
-    /// Does an operation of the protocol under its lock, and gives its channel, where it has one, the
-    /// mark under the channel's: it is applied, its line recorded under the hand (at its place, from
-    /// 1 on; a start has the place 0), and its changes are sent. The helper is told of cursors that
-    /// have no room for one. The pass has then seen all that the operations of which the hand knows
-    /// gave.
+    /// Does an operation of the protocol under its lock, and gives its channel, where it has one,
+    /// the mark under the channel's: it is applied, its line recorded under the hand (at its place,
+    /// from 1 on; a start has the place 0), and its changes are sent. The helper is told of cursors
+    /// that have no room for one. The pass has then seen all that the operations of which the hand
+    /// knows gave.
     ///
     /// A fault that came before comes again, and nothing is done then. At `Ended` the operation is
-    /// recorded, and a part of its changes may be sent. At `Memory` nothing is said of the importer.
+    /// recorded, and a part of its changes may be sent. At `Memory` nothing is said of the
+    /// importer.
     pub fn operate<R: Wait, G: Gate, H: Helper>(
         &self,
         rt: &R,

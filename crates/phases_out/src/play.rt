@@ -15,8 +15,8 @@ use script_lines::{Line, Name};
 use std::alloc::Global;
 use sys_run::Core;
 
-/// Plays phases by a core that has played nothing, and writes the reports with the last line: of each
-/// phase the one to which the machine comes on the lines as they are written.
+/// Plays phases by a core that has played nothing, and writes the reports with the last line: of
+/// each phase the one to which the machine comes on the lines as they are written.
 pub fn play_all<J: Judge, K: Sink>(
     alloc: Global,
     form: Form,

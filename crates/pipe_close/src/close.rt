@@ -60,8 +60,8 @@ fn end_journals<J: Judge + Drop>(
     })
 }
 
-/// Ends a pipe's phase between the tables of these numbers, with all hands of its turns, one of each
-/// actor and one for starts. Where a fault came in the phase, it comes again.
+/// Ends a pipe's phase between the tables of these numbers, with all hands of its turns, one of
+/// each actor and one for starts. Where a fault came in the phase, it comes again.
 pub fn close_pipe<J: Judge + Drop>(
     primary: u32,
     peer: u32,

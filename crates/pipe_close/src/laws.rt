@@ -39,8 +39,8 @@ pub fn pipes_turns_begin_with_starts()
         → AreTurnsOf actor i done (receipts key.turns.1.start actor list) }
 {}
 
-/// What lies under the locks of a pipe's session can be closed, and what is left then can be ended in
-/// the session's tables.
+/// What lies under the locks of a pipe's session can be closed, and what is left then can be ended
+/// in the session's tables.
 pub fn sessions_can_end<J: Judge>()
     ensures closing { (phase : PhaseTerms) (tables : List (TableId × Terms TableOpening))
         (number primary peer : ℕ) (key : PipeLocks) (hands : List HandView)

@@ -1,6 +1,6 @@
 //! What a pipe has come to once its phase's threads have returned: its locks are open, the hands of
-//! its turns and the stamps of its directions have ended, and of its directions the cursors and ports
-//! in their tables.
+//! its turns and the stamps of its directions have ended, and of its directions the cursors and
+//! ports in their tables.
 //!
 //! `stamps` ends a direction's stamp, `close` says what is left of a pipe then; `seats` ends a
 //! direction's cursor in the table that it reads and its port in the one that it writes, and `end`

@@ -35,7 +35,8 @@ fn retire_at(closings: &mut Vec<Closing>, place: usize, port: Port)
     closings[place].retire(port);
 }
 
-/// Ends the cursor of a direction in the table of the one number, and its port in that of the other.
+/// Ends the cursor of a direction in the table of the one number, and its port in that of the
+/// other.
 pub fn end_lane<J: Judge + Drop>(
     closings: &mut Vec<Closing>,
     reads: u32,

@@ -23,8 +23,8 @@ use table_shared::Table;
 pub type LaneLock<J, P> = Lock<PipeLane<J>, LaneKey<P>, Lanes<J, P>>;
 
 /// A pipe's direction behind its lock, with all that its turns want: the tables that it reads and
-/// writes, the sources of what is played, by number, and who has cursors of the table that it writes
-/// read on.
+/// writes, the sources of what is played, by number, and who has cursors of the table that it
+/// writes read on.
 pub struct LaneDoor<'a, J: Judge + Drop, P: Sends, G, H> {
     pub lock: &'a LaneLock<J, P>,
     pub gate: &'a G,

@@ -20,8 +20,8 @@ pub fn pipes_only_signal()
         ≡ only_tells (pipe_signal state.up op) }
 {}
 
-/// Whenever the lock is free and there was no fault, both directions may take what the next operation
-/// signals, under the locks that are theirs.
+/// Whenever the lock is free and there was no fault, both directions may take what the next
+/// operation signals, under the locks that are theirs.
 pub fn next_signals_pass()
     ensures out { (key : PipeTerms) (lane : LaneTerms) (state : PipeState) (op : Op)
         → IsFree key state → state.fault ≡ None → IsLaneOf key key.out lane

@@ -25,8 +25,8 @@ ghost use Rattle.pipe_rest.specs.declared.member.MemberLeft.{MemberLeft as Membe
 use attrs::Judge;
 use pipe_turns::laws::ports_have_seen_the_last_head;
 
-/// A pipe whose directions have gone on, by turns that leave their marks, is left as before, and can
-/// be ended as before.
+/// A pipe whose directions have gone on, by turns that leave their marks, is left as before, and
+/// can be ended as before.
 pub fn later_pipes_are_left<J: Judge>()
     ensures left { (sources : List Src) (key : PipeLocks) (hands : List HandView)
         (old new : PipeLeft J) → IsLaterPipe J.verdict sources old new
@@ -63,8 +63,8 @@ pub fn pipes_can_turn<J: Judge>()
         × CanTurn J.verdict there here sources pipe.back }
 {}
 
-/// What is up and at rest at no less than the head of its table is at rest at the table's last head,
-/// once all ports that have a source there have ended and have seen no more than that head.
+/// What is up and at rest at no less than the head of its table is at rest at the table's last
+/// head, once all ports that have a source there have ended and have seen no more than that head.
 pub fn settled_members_know_the_last_head<J: Judge>()
     ensures { (heads : List ℕ) (table : ℕ) (terms : Terms TableOpening) (list : List Entry)
         (said : List JEntry) (state : ExportState J)

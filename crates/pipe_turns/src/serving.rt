@@ -69,9 +69,9 @@ fn some_turns<R: Wait, G: Gate, J: Judge>(
     (lane, Ok(Served::Busy))
 }
 
-/// Has a pipe's direction do up to 64 turns under its lock, until there is nothing to do or the table
-/// that it writes has no room. The lock is free again behind them: who has the cursor read on that is
-/// answered, holds no lock of a direction.
+/// Has a pipe's direction do up to 64 turns under its lock, until there is nothing to do or the
+/// table that it writes has no room. The lock is free again behind them: who has the cursor read on
+/// that is answered, holds no lock of a direction.
 pub fn serve_lane<R: Wait, J: Judge + Drop, P: Sends, G: Gate, H: Helper>(
     alloc: Global,
     rt: &R,

@@ -39,9 +39,9 @@ fn ends(cursor: &TableCursor, did: LaneDid) -> Option<Settled>
 }
 
 /// Has a pipe's direction do turns until there is nothing to do, or the table that it writes has no
-/// room. Where there is nothing to do it is down, or withdraws what stands, or has read and sent all
-/// up to the head, which is answered. The head is the one that its cursor loaded last, so it is the
-/// table's once nobody changes that any more. At a fault what was done until then stays.
+/// room. Where there is nothing to do it is down, or withdraws what stands, or has read and sent
+/// all up to the head, which is answered. The head is the one that its cursor loaded last, so it is
+/// the table's once nobody changes that any more. At a fault what was done until then stays.
 pub fn settle_lane<R: Wait, G: Gate, J: Judge>(
     alloc: Global,
     rt: &R,

@@ -138,10 +138,10 @@ fn feed<R: Wait, J: Judge>(
 }
 
 /// A turn of a pipe's direction, and what it did. Where a feed goes on it reads up to 256 nets of
-/// the table that it reads. Else it takes the next entry, and where there is none it pushes the first
-/// key that is marked into the table that it writes. A direction that is down does nothing, and one
-/// that withdraws what stands takes entries alone. A fault is want of memory, or that the table that
-/// is written has no position left; what the turn was to do is left for the next.
+/// the table that it reads. Else it takes the next entry, and where there is none it pushes the
+/// first key that is marked into the table that it writes. A direction that is down does nothing,
+/// and one that withdraws what stands takes entries alone. A fault is want of memory, or that the
+/// table that is written has no position left; what the turn was to do is left for the next.
 pub fn turn_lane<R: Wait, G: Gate, J: Judge>(
     alloc: Global,
     rt: &R,

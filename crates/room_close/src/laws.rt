@@ -30,8 +30,8 @@ use attrs::Judge;
 use export_lock::Sends;
 use import_lock::Phase;
 
-/// Each table of a room that has ended has records of its entries, which each actor's pass has seen a
-/// front of, and each member's ports and cursors have ended there.
+/// Each table of a room that has ended has records of its entries, which each actor's pass has seen
+/// a front of, and each member's ports and cursors have ended there.
 pub fn tables_have_records<J: Judge>()
     ensures records { (tables : List (TableId × Terms TableOpening))
         (left : List (MemberLeft J)) (actors : List PassesView) (ended : RoomEndedView J)

@@ -80,8 +80,8 @@ impl<J: Judge + Drop, P: Phase + Sends> Begun<J, P> {
         self.add(Member::Own(session), hands)
     }
 
-    /// The next protocol has a channel to a neighbour, which reads the table that the protocol imports
-    /// to. The entries are those of the table before the phase.
+    /// The next protocol has a channel to a neighbour, which reads the table that the protocol
+    /// imports to. The entries are those of the table before the phase.
     pub fn enter_neighbour(
         &mut self,
         alloc: Global,
@@ -128,8 +128,8 @@ impl<J: Judge + Drop, P: Phase + Sends> Begun<J, P> {
         self.add(Member::Own(session), given)
     }
 
-    /// The next protocol is a pipe, with both its directions. The entries are those of its primary and
-    /// of its peer table before the phase.
+    /// The next protocol is a pipe, with both its directions. The entries are those of its primary
+    /// and of its peer table before the phase.
     pub fn enter_pipe(
         &mut self,
         alloc: Global,

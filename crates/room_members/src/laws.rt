@@ -12,8 +12,8 @@ use attrs::Judge;
 use export_lock::Sends;
 use import_lock::Phase;
 
-/// As a room begins each actor, with its hands of the room's protocols and a pass of each table, has
-/// done none of its lines.
+/// As a room begins each actor, with its hands of the room's protocols and a pass of each table,
+/// has done none of its lines.
 pub fn actors_can_begin<J: Judge + Drop, P: Phase + Sends>()
     ensures { (begun : BegunView J P) (passes : List (Vec PassView Global))
         → IsBegun P.terms P.exports P.rules begun

@@ -1,9 +1,9 @@
-//! What the threads of a phase share: its tables, and its protocols, which have routes of their own or
-//! are pipes.
+//! What the threads of a phase share: its tables, and its protocols, which have routes of their own
+//! or are pipes.
 //!
-//! `member` is a protocol of either kind, `room` has tables and members by their numbers; `operating`
-//! does an operation of a member. As a phase begins `begun` is a room with the hands of actors, which
-//! protocols `enter`; by `laws` actors can begin then.
+//! `member` is a protocol of either kind, `room` has tables and members by their numbers;
+//! `operating` does an operation of a member. As a phase begins `begun` is a room with the hands of
+//! actors, which protocols `enter`; by `laws` actors can begin then.
 #![tactic(auto)]
 
 mod begun;

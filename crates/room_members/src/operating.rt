@@ -99,13 +99,14 @@ impl<J: Judge + Drop, P: Phase + Sends> Room<J, P> {
     }
 
     /// Does an operation of the protocol of this number under its locks. Its line is recorded under
-    /// the hand, at its place, from 1 on; a start has the place 0. A protocol with routes of its own
-    /// sends its changes, of which the pass of its table has then seen all that the operations of
-    /// which the hand knows gave; its channel, and both directions of a pipe, take the mark. The
+    /// the hand, at its place, from 1 on; a start has the place 0. A protocol with routes of its
+    /// own sends its changes, of which the pass of its table has then seen all that the operations
+    /// of which the hand knows gave; its channel, and both directions of a pipe, take the mark. The
     /// helper is told of cursors that have no room for a change. The passes are one of each table.
     ///
     /// A fault that came before comes again, and nothing is done then. At `Ended` the operation is
-    /// recorded, and a part of its changes may be sent. At `Memory` nothing is said of the protocol.
+    /// recorded, and a part of its changes may be sent. At `Memory` nothing is said of the
+    /// protocol.
     pub fn operate<R: Wait, G: Gate, H: Helper>(
         &self,
         rt: &R,

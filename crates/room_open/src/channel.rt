@@ -52,8 +52,8 @@ pub fn open_channel<J: Judge>(held: StandingChannel<J>, cursor: TableCursor) -> 
     }
 }
 
-/// The part of a pipe's direction, with its cursor of the table that it reads and its port of the one
-/// that it writes.
+/// The part of a pipe's direction, with its cursor of the table that it reads and its port of the
+/// one that it writes.
 pub fn open_direction<J: Judge>(
     held: StandingChannel<J>,
     cursor: TableCursor,

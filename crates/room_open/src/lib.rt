@@ -2,8 +2,9 @@
 //! the seats of its actors (`opening`).
 //!
 //! `room` opens it: `tables` makes the tables, with the sources of their ports told by `sources`;
-//! `members` lets protocols enter, which have routes of their own or are `pipes`, with their channels
-//! (`channel`); `actors` seats actors. Each takes its lists from those that were made (`lists`).
+//! `members` lets protocols enter, which have routes of their own or are `pipes`, with their
+//! channels (`channel`); `actors` seats actors. Each takes its lists from those that were made
+//! (`lists`).
 #![tactic(auto)]
 
 mod actors;

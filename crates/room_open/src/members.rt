@@ -24,8 +24,8 @@ use room_members::Begun;
 use std::alloc::Global;
 use table_shared::{Port, TableCursor};
 
-/// The next protocol that enters the room has routes of its own. Of its channel's cursors the one of
-/// its table is taken.
+/// The next protocol that enters the room has routes of its own. Of its channel's cursors the one
+/// of its table is taken.
 fn enter_own<J: Judge + Drop, P: Phase + Sends>(
     alloc: Global,
     played: &P,

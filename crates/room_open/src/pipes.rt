@@ -38,9 +38,9 @@ fn two_of<T: Drop>(items: Vec<T>, one: usize, other: usize) -> (T, T)
     }
 }
 
-/// The next protocol that enters the room is a pipe. Its direction out has the port of the peer table,
-/// and the one back that of the primary table. Of each direction's cursors the one of the table that it
-/// reads is taken.
+/// The next protocol that enters the room is a pipe. Its direction out has the port of the peer
+/// table, and the one back that of the primary table. Of each direction's cursors the one of the
+/// table that it reads is taken.
 pub fn enter_pipe<J: Judge + Drop, P: Phase + Sends>(
     alloc: Global,
     played: &P,

@@ -2,8 +2,8 @@
 use attrs::Judge;
 use phase_open::{StandingChannel, StandingProtocol, StandingTable};
 
-/// A pipe, with the numbers of its tables, and its directions: the one from its primary table to its
-/// peer table, and the one back.
+/// A pipe, with the numbers of its tables, and its directions: the one from its primary table to
+/// its peer table, and the one back.
 #[derive(Drop)]
 pub struct StandingPipe<J: Judge> {
     pub primary: u32,

@@ -36,7 +36,8 @@ fn settle_own<R: Wait, J: Judge + Drop>(
     }
 }
 
-/// A member's channel or directions do turns, each until there is nothing to do or there is no room.
+/// A member's channel or directions do turns, each until there is nothing to do or there is no
+/// room.
 fn settle_member<R: Wait, G: Gate, J: Judge + Drop>(
     alloc: Global,
     rt: &R,
@@ -109,12 +110,12 @@ fn have_rested<J: Judge>(
     }
 }
 
-/// Brings all that is left of the members of a phase to rest, over tables that nobody else writes any
-/// more: each channel and each direction that is up has then read and sent all, up to the last head of
-/// the table that it reads. What is down stays as it is, but for its cursors, which move past the
-/// entries that there are, as do the spare ones: cursors of tables that their channels don't read, which
-/// lag like any other. It ends at the first fault: a table that has no position left, or want of
-/// memory.
+/// Brings all that is left of the members of a phase to rest, over tables that nobody else writes
+/// any more: each channel and each direction that is up has then read and sent all, up to the last
+/// head of the table that it reads. What is down stays as it is, but for its cursors, which move
+/// past the entries that there are, as do the spare ones: cursors of tables that their channels
+/// don't read, which lag like any other. It ends at the first fault: a table that has no position
+/// left, or want of memory.
 pub fn settle_members<R: Wait, G: Gate, J: Judge + Drop>(
     alloc: Global,
     rt: &R,

@@ -59,8 +59,8 @@ fn check_first(hand: &Hand) -> Result<(), PlayFault>
     Err(PlayFault::Late)
 }
 
-/// Does the start of a protocol with its hand for that, as the protocol's first turn. The passes are
-/// one of each table.
+/// Does the start of a protocol with its hand for that, as the protocol's first turn. The passes
+/// are one of each table.
 fn start_with<R: Wait, G: Gate, H: Helper, J: Judge + Drop, P: Phase + Sends>(
     rt: &R,
     gate: &G,

@@ -4,8 +4,8 @@
 //! started does its lines at once. `act_all` waits for all of them, and `act_and_serve` has workers
 //! serve the channels meanwhile, and pipes.
 //!
-//! `actor` has an actor that is through, `thread` starts one and waits for it, `all` does so for all, `serve`
-//! has workers beside them.
+//! `actor` has an actor that is through, `thread` starts one and waits for it, `all` does so for
+//! all, `serve` has workers beside them.
 #![tactic(auto)]
 
 mod actor;

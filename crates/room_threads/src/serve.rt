@@ -53,8 +53,8 @@ fn start_worker<
     }
 }
 
-/// Waits for a worker, if there is one. What it could not do, for want of memory or where a table has
-/// no position left, is left to whoever settles its channels.
+/// Waits for a worker, if there is one. What it could not do, for want of memory or where a table
+/// has no position left, is left to whoever settles its channels.
 fn finish_worker<R: Threads>(rt: &R, worker: Option<JoinHandle<Result<(), OpFault>>>) {
     if let Some(handle) = worker {
         let _ = handle.join(rt);
@@ -62,8 +62,8 @@ fn finish_worker<R: Threads>(rt: &R, worker: Option<JoinHandle<Result<(), OpFaul
 }
 
 /// All actors do their lines as by `act_all`, while four workers serve the channels, a pipe's
-/// directions among them. A worker whose thread can't be started leaves its channels to helps and to
-/// whoever settles them.
+/// directions among them. A worker whose thread can't be started leaves its channels to helps and
+/// to whoever settles them.
 pub fn act_and_serve<
     R: Threads + Wait + Sync,
     G: Gate + Sync,

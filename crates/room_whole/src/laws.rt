@@ -51,8 +51,8 @@ pub fn played_phases_are_legal<J: Judge + Drop, P: Phase + Sends>()
 }
 
 /// Of each table and each protocol that stood one thing is left, and of each actor one list of
-/// replies. What is left of a protocol is over the tables of what stood, and has an exporter if that
-/// had a channel.
+/// replies. What is left of a protocol is over the tables of what stood, and has an exporter if
+/// that had a channel.
 pub fn members_are_of_what_stood<J: Judge + Drop, P: Phase + Sends>()
     ensures { (played : P) (standing : StandingView J) (opening : OpeningView J P)
         (starts : List Act) (made : PlayedRoomView J)

@@ -101,7 +101,8 @@ fn find_readers<R: Wait, J: Judge + Drop, P: Phase + Sends>(
 
 impl Channels {
     /// Finds who reads for the members of a room. There are as many channels as lists of spare
-    /// cursors: in the place of a channel's number stand its cursors of tables that it doesn't read.
+    /// cursors: in the place of a channel's number stand its cursors of tables that it doesn't
+    /// read.
     pub fn of<R: Wait, J: Judge + Drop, P: Phase + Sends>(
         alloc: Global,
         rt: &R,

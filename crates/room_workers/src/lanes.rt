@@ -18,8 +18,8 @@ use std::alloc::Global;
 use std::sync::Wait;
 use table_shared::Table;
 
-/// Has a direction do some turns under its lock, until there is nothing to do. Where the table that it
-/// writes has no room, the helper has the cursor read on that lags, once the lock is free. Tells
+/// Has a direction do some turns under its lock, until there is nothing to do. Where the table that
+/// it writes has no room, the helper has the cursor read on that lags, once the lock is free. Tells
 /// whether there was anything to do.
 fn serve_lane<'a, R: Wait, G: Gate, H: Helper, J: Judge + Drop, P: Sends>(
     alloc: Global,

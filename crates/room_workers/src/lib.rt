@@ -6,9 +6,9 @@
 //! finds who reads by a cursor's number, and `spares` gives back the cursors that nobody reads by.
 //! What a turn is stands in `channel_turns` and `pipe_turns`.
 //!
-//! Who holds a channel's lock waits for a table's lock at most, and so does who holds a direction's.
-//! A help waits for no protocol's lock. Nothing is promised of what workers and helps do, but that
-//! locks keep what they keep.
+//! Who holds a channel's lock waits for a table's lock at most, and so does who holds a
+//! direction's. A help waits for no protocol's lock. Nothing is promised of what workers and helps
+//! do, but that locks keep what they keep.
 #![tactic(auto)]
 
 mod channels;

@@ -20,8 +20,8 @@ use std::sync::atomic::{AtomicBool, Ordering};
 use std::thread::Parker;
 use std::time::Duration;
 
-/// For how many microseconds a worker sleeps that found nothing to do. Its channels may lag so long:
-/// who writes a table that has no room helps itself.
+/// For how many microseconds a worker sleeps that found nothing to do. Its channels may lag so
+/// long: who writes a table that has no room helps itself.
 const IDLE: u64 = 100;
 
 /// Some turns of the channel of a protocol with routes of its own, where it has one. Tells whether
@@ -138,9 +138,9 @@ fn serve_on<R: Wait, G: Gate, H: Helper, J: Judge + Drop, P: Phase + Sends>(
 }
 
 /// A worker: of four workers, numbered from 0 on, each serves the channels whose numbers leave its
-/// own by 4, a pipe's directions among them. A direction whose table has no room has the cursor read
-/// on that lags there, without its own lock. Once all actors have ended it goes on until its channels
-/// have nothing to do; what a direction of another worker brings later is left.
+/// own by 4, a pipe's directions among them. A direction whose table has no room has the cursor
+/// read on that lags there, without its own lock. Once all actors have ended it goes on until its
+/// channels have nothing to do; what a direction of another worker brings later is left.
 ///
 /// It ends also for want of memory, or where a direction writes a table that has no position left.
 /// Its channels are then as they were before the turn that failed, and are left to whoever settles

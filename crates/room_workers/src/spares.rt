@@ -13,8 +13,8 @@ fn take_list<R: Wait>(alloc: Global, rt: &R, list: &Mutex<Vec<TableCursor>>) -> 
 }
 
 impl Channels {
-    /// In the place of each channel's number its cursors of tables that it doesn't read, for who has
-    /// the tables go on once no thread helps any more.
+    /// In the place of each channel's number its cursors of tables that it doesn't read, for who
+    /// has the tables go on once no thread helps any more.
     pub fn into_spares<R: Wait>(
         self,
         rt: &R,

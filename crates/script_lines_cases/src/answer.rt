@@ -13,8 +13,8 @@ use std::io::{Error, ErrorKind};
 /// Phases are separated by ` / `, lines by `; `, and an empty phase is `-`. An operation is written
 /// with its actor's number, its line's and its protocol's: `0@2 p3 del 10.0.0.0/8`; a query with
 /// its actor's number, its own and its table's, and what else is asked: `0@ q1 t2 in 10.0.0.0/8 of
-/// p3`. Behind ` by ` are those who speak, and behind ` where ` the conditions, each with its line's
-/// number, between brackets.
+/// p3`. Behind ` by ` are those who speak, and behind ` where ` the conditions, each with its
+/// line's number, between brackets.
 pub fn answer(alloc: Global, text: &[u8], schedule: bool) -> io::Result<String> {
     if text.len() >= 1_000_000 {
         return Err(Error::from(ErrorKind::InvalidInput));

@@ -1,5 +1,5 @@
-//! The routes of a file: `NET | NAME VALUE, NAME VALUE, ..`. What isn't said is: source 1, pref 100,
-//! kind bgp, dest unicast, no path, no origin, no gateway, learned from another AS.
+//! The routes of a file: `NET | NAME VALUE, NAME VALUE, ..`. What isn't said is: source 1, pref
+//! 100, kind bgp, dest unicast, no path, no origin, no gateway, learned from another AS.
 ghost use Rattle.std.specs.Prelude.{◌≡◌};
 ghost use Rattle.bits_ip.specs.Address.{family_of};
 ghost use Rattle.bits_ip.specs.declared.address.Family.TheVariants as Family;

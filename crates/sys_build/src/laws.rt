@@ -1,4 +1,5 @@
-//! What holds of all that an accepted configuration and a script give to play, and of what is named.
+//! What holds of all that an accepted configuration and a script give to play, and of what is
+//! named.
 ghost use Rattle.std.specs.Prelude.{◌≡◌, ◌<◌, ◌≤◌, ◌^◌, ℕ, Bool, List, [], ◌∷◌, Some, length, map};
 ghost use Rattle.std.specs.List.{All};
 ghost use Rattle.core_setup.specs.Bridges.{KeepsItsOwn, pipe_at};
@@ -29,10 +30,10 @@ use conf_system::laws::{
 use core_setup::laws::bridges_keep_their_own;
 use script_lines::laws as lines;
 
-/// An accepted script over an accepted configuration can be played: routes tell the numbers of their
-/// protocols, each table that a protocol names is there, each channel is of the family of its table,
-/// and so are the nets of configured routes, a pipe joins two tables of one family, and what a query
-/// names is there.
+/// An accepted script over an accepted configuration can be played: routes tell the numbers of
+/// their protocols, each table that a protocol names is there, each channel is of the family of its
+/// table, and so are the nets of configured routes, a pipe joins two tables of one family, and what
+/// a query names is there.
 pub fn accepted_scripts_are_setups()
     ensures { (conf text : List ℕ) (system : System) (schedule : Bool) (phases : List (List Line))
         (actors : List (List ℕ)) (queries : List Query) (filters : List Filter) (cells : ℕ)
@@ -46,9 +47,9 @@ pub fn accepted_scripts_are_setups()
     lines::a_script_names_what_is();
 }
 
-/// In an accepted configuration each direction of a pipe keeps the routes that come by the pipe itself
-/// to the table that it reads, and passes those of all other sources that come there. So nothing goes
-/// back by the pipe that it came by.
+/// In an accepted configuration each direction of a pipe keeps the routes that come by the pipe
+/// itself to the table that it reads, and passes those of all other sources that come there. So
+/// nothing goes back by the pipe that it came by.
 pub fn pipes_keep_their_own()
     ensures { (conf text : List ℕ) (system : System) (schedule : Bool) (phases : List (List Line))
         (actors : List (List ℕ)) (queries : List Query) (filters : List Filter)

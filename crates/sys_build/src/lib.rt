@@ -3,9 +3,9 @@
 //! queries (`specs/Setups`).
 //!
 //! `read_script` reads a script by the names that it may use (`specs/Names`), and judges the
-//! conditions in it (`specs/Scripts`). `parts` makes what is played, whose filters are the policies of
-//! the configuration, and those by which queries choose; `build` makes a core of it. Names count as
-//! the core's numbers do, and what an accepted script asks for is there (`laws`).
+//! conditions in it (`specs/Scripts`). `parts` makes what is played, whose filters are the policies
+//! of the configuration, and those by which queries choose; `build` makes a core of it. Names count
+//! as the core's numbers do, and what an accepted script asks for is there (`laws`).
 #![tactic(auto)]
 
 mod choices;

@@ -73,7 +73,8 @@ impl<J: Judge + Drop> Core<J> {
     /// A core that has played nothing. The journal of each table holds so many changes for the
     /// channels that are still to take them. The channels are numbered in the order of protocols:
     /// of a pipe P `P.export` and then `P.import`. Lines ask the queries by their numbers, and
-    /// queries name the filters of `choices` by theirs. What is printed doesn't depend on the hasher.
+    /// queries name the filters of `choices` by theirs. What is printed doesn't depend on the
+    /// hasher.
     pub fn make(
         alloc: Global,
         hasher: RandomState,

@@ -26,9 +26,9 @@ pub fn phases_come_to_one_report()
     reports_are_determined();
 }
 
-/// The reports of a play or a run are legal: operations are merges of the actors' lines, each table's journal
-/// has every protocol's imports once, in order, each channel's log follows its table's history,
-/// each reply is its table's, and the state is that of the operations.
+/// The reports of a play or a run are legal: operations are merges of the actors' lines, each
+/// table's journal has every protocol's imports once, in order, each channel's log follows its
+/// table's history, each reply is its table's, and the state is that of the operations.
 pub fn reports_are_legal()
     ensures { (command : Option Command) (held : Held) (setup : Setup)
         (actors : List (List ℕ)) (phases : List (List Line)) (reports : List PhaseReport)

@@ -108,8 +108,8 @@ fn answer_text(alloc: Global, words: &[u8], text: &[u8]) -> io::Result<String>
 }
 
 /// What the filter of an input says of its route: `accept` and the attributes that it changed,
-/// `reject`, or `fault` and which one; or the line, the column and the kind of its refusal, of a filter
-/// that is too heavy with its weight.
+/// `reject`, or `fault` and which one; or the line, the column and the kind of its refusal, of a
+/// filter that is too heavy with its weight.
 pub fn answer(alloc: Global, input: &[u8]) -> io::Result<String> {
     let (words, text) = parts(input);
     if text.len() > LONGEST {
