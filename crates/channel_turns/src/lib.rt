@@ -18,4 +18,3 @@ mod turns;
 pub use helping::{help_channel, pass_all, pass_by, read_on};
 pub use serving::serve_channel;
 pub use settling::settle;
-pub use turns::{Did, read_or_push, turn_channel};

@@ -16,7 +16,7 @@ use table_shared::Table;
 
 /// What a turn did.
 #[derive(Clone, Copy, Debug, PartialEq, Eq, Drop)]
-pub enum Did {
+pub(crate) enum Did {
     /// It read a part of the table, for the feed that goes on.
     Fed,
     /// It took the next entry of the table.
@@ -65,7 +65,10 @@ fn push<J: Judge>(state: &mut ExportState<J>) -> Result<Did, OutOfMemory>
 /// there is none it pushes the first key that is marked. It wants no table, so it serves a channel
 /// whose table is closed too. Where memory is refused, what the turn was to do is left for the
 /// next.
-pub fn read_or_push<J: Judge>(alloc: Global, state: &mut ExportState<J>) -> Result<Did, OutOfMemory>
+pub(crate) fn read_or_push<J: Judge>(
+    alloc: Global,
+    state: &mut ExportState<J>,
+) -> Result<Did, OutOfMemory>
     requires kind { IsOfKind J.verdict false state.old }
     requires fed { is_feeding state.old ≡ false }
     ensures goes { GoesOn J.verdict state.old state.new }
@@ -85,7 +88,7 @@ pub fn read_or_push<J: Judge>(alloc: Global, state: &mut ExportState<J>) -> Resu
 /// nets of the table. Else it takes the next entry, and where there is none it pushes the first key
 /// that is marked. A channel that is down does nothing. Where memory is refused, what the turn was
 /// to do is left for the next.
-pub fn turn_channel<R: Wait, J: Judge>(
+pub(crate) fn turn_channel<R: Wait, J: Judge>(
     alloc: Global,
     rt: &R,
     table: &Table,
