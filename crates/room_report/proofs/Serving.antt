@@ -19,7 +19,7 @@ use Rattle.room_ends.specs.declared.ended.MemberEnded.TheVariants.{Own, Pipe}
 use Rattle.room_ends.specs.Prints.{PrintsChannel, PrintsMember, PrintsPipe, PrintsSession}
 use Rattle.room_report.specs.Described.{IsMemberOf, IsPipeOf, MayStand}
 use Rattle.room_report.specs.Inside.{Served, lane, own_served, pipe_served, served, served_in, text_of, with_target}
-use Rattle.room_report.specs.declared.naming.Way.TheVariants as way
+use Rattle.room_report.specs.declared.naming.ChannelKind.TheVariants as kind
 
 -- ---- what is left of all channels behind some
 
@@ -83,8 +83,8 @@ module _ {J : Type 0} (setup : Setup) (lines : List Line) (past : Joined) (p : P
     pub there : channel_at setup c ≡ Some channel
     pub protocol : Protocol
     pub protocol_at : slice_get setup.protocols s.owner ≡ Some protocol
-    pub name : protocol.name ++ text_of s.way ≡ channel.name
-    pub target : with_target s.way ≡ is_direction channel
+    pub name : protocol.name ++ text_of s.kind ≡ channel.name
+    pub target : with_target s.kind ≡ is_direction channel
     pub may : MayStand s.exporter
     pub printed : PrintsChannel setup lines past p c s.exporter
 
@@ -121,7 +121,7 @@ module _ {J : Type 0} (setup : Setup) (lines : List Line) (past : Joined) (p : P
       let then_is = one_on (channels setup) i (i + 1) c out (back ∷ rest) (omega arith) (omega arith) is in
       let first = first_next (channels setup) i c out back rest is refl refl prints.out_number prints.back_number prints.belong in
       let second = second_next (channels setup) i c out back rest is refl refl prints.out_number prints.back_number prints.belong in
-      let out_fits : Fits c out (lane i way.Export pipe.out) =
+      let out_fits : Fits c out (lane i kind.Export pipe.out) =
       record {
         there = here_is setup i c out (back ∷ rest) is;
         protocol = q;
@@ -131,7 +131,7 @@ module _ {J : Type 0} (setup : Setup) (lines : List Line) (past : Joined) (p : P
         may = of.out;
         printed = subst (λ n. PrintsChannel setup lines past p n pipe.out) first prints.out;
       } in
-      let back_fits : Fits (c + 1) back (lane i way.Import pipe.back) =
+      let back_fits : Fits (c + 1) back (lane i kind.Import pipe.back) =
       record {
         there = here_is setup (i + 1) (c + 1) back rest then_is;
         protocol = q;

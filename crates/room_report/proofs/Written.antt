@@ -191,7 +191,7 @@ module _ {J : Type 0} (setup : Setup) (tables : List TableParts) (names actors :
   logs_written reports told_of =
       pairs_through (Fits {J = J} setup (map (line_of setup.queries) all) past p) (IsLogOf {J = J} names logged) (λ c channel r. r ≡ channel_report p c channel) (channels setup) (served 0 made.ended.members.items) reports
       (λ c channel s r ec es er is so.
-      let name : name_or_none (slice_get names s.owner) ++ text_of s.way ≡ channel.name = ap (λ (n : List ℕ). n ++ text_of s.way) (protocol_named s.owner is.protocol is.protocol_at) ∙ is.name in
+      let name : name_or_none (slice_get names s.owner) ++ text_of s.kind ≡ channel.name = ap (λ (n : List ℕ). n ++ text_of s.kind) (protocol_named s.owner is.protocol is.protocol_at) ∙ is.name in
       let pipe = is.target in
       let count : length_of (slice_get logged c) ≡ length (past.logs c) = ap length_of (described.logged_are c channel ec) in
       let items : drop (length_of (slice_get logged c)) s.exporter.log ≡ reverse (p.items c) = behind (length_of (slice_get logged c)) s.exporter.log (p.items c) (past.logs c) is.printed.items count in
@@ -202,7 +202,7 @@ module _ {J : Type 0} (setup : Setup) (tables : List TableParts) (names actors :
   exports_written reports told_of =
       pairs_through (Fits {J = J} setup (map (line_of setup.queries) all) past p) (IsExportOf {J = J} names) (λ c channel r. IsExportReport p c channel r) (channels setup) (served 0 made.ended.members.items) reports
       (λ c channel s r ec es er is so.
-      let name : name_or_none (slice_get names s.owner) ++ text_of s.way ≡ channel.name = ap (λ (n : List ℕ). n ++ text_of s.way) (protocol_named s.owner is.protocol is.protocol_at) ∙ is.name in
+      let name : name_or_none (slice_get names s.owner) ++ text_of s.kind ≡ channel.name = ap (λ (n : List ℕ). n ++ text_of s.kind) (protocol_named s.owner is.protocol is.protocol_at) ∙ is.name in
       record {
         name = so.name ∙ name;
         pipe = so.pipe ∙ is.target;

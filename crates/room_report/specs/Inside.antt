@@ -40,8 +40,8 @@ use Rattle.room_open.specs.declared.standing.StandingMember.{StandingMember}
 use Rattle.room_open.specs.declared.standing.StandingMember.TheVariants as standing
 use Rattle.room_open.specs.declared.standing.StandingPipe.{StandingPipe}
 use Rattle.room_report.specs.Described.{MayStand}
-use Rattle.room_report.specs.declared.naming.Way.{Way}
-use Rattle.room_report.specs.declared.naming.Way.TheVariants.{Export, Import, Own}
+use Rattle.room_report.specs.declared.naming.ChannelKind.{ChannelKind}
+use Rattle.room_report.specs.declared.naming.ChannelKind.TheVariants.{Export, Import, Own}
 use Rattle.room_report.specs.declared.numbers.ChannelNumbers.{ChannelNumbers}
 use Rattle.room_report.specs.declared.numbers.ChannelNumbers.TheVariants as kinds
 
@@ -129,12 +129,12 @@ directions_in (kinds.Pipe out back) = (out, back)
 
 -- ---- a channel beside its protocol
 
-abbrev pub text_of : Way → List ℕ
+abbrev pub text_of : ChannelKind → List ℕ
 text_of Own = []
 text_of Export = codes ".export"
 text_of Import = codes ".import"
 
-abbrev pub with_target : Way → Bool
+abbrev pub with_target : ChannelKind → Bool
 with_target Own = false
 with_target Export = true
 with_target Import = true
@@ -142,7 +142,7 @@ with_target Import = true
 -- a channel, with its protocol's number
 pub record Served (J : Type 0) : Type 0 where
   pub owner : ℕ
-  pub way : Way
+  pub kind : ChannelKind
   pub exporter : State J
 
 module _ {J : Type 0} where
@@ -170,8 +170,8 @@ module _ {J : Type 0} where
 
   -- ---- reports of channels
 
-  abbrev pub lane : ℕ → Way → State J → Served J
-  lane number way exporter = record { owner = number; way = way; exporter = exporter }
+  abbrev pub lane : ℕ → ChannelKind → State J → Served J
+  lane number kind exporter = record { owner = number; kind = kind; exporter = exporter }
 
   abbrev pub own_served : ℕ → Option (State J) → List (Served J)
   own_served number None = []
@@ -202,8 +202,8 @@ module _ {J : Type 0} where
 
   abbrev pub log_of : List (List ℕ) → List ℕ → ℕ → Served J → ChannelReport
   log_of names logged number s = record {
-    name = name_or_none (slice_get names s.owner) ++ text_of s.way;
-    pipe = with_target s.way;
+    name = name_or_none (slice_get names s.owner) ++ text_of s.kind;
+    pipe = with_target s.kind;
     items = drop (length_of (slice_get logged number)) s.exporter.log;
   }
 
@@ -212,8 +212,8 @@ module _ {J : Type 0} where
 
   pub record IsExportOf (names : List (List ℕ)) (number : ℕ) (s : Served J) (report : ExportReport)
       : Type 0 where
-    pub name : report.name ≡ name_or_none (slice_get names s.owner) ++ text_of s.way
-    pub pipe : report.pipe ≡ with_target s.way
+    pub name : report.name ≡ name_or_none (slice_get names s.owner) ++ text_of s.kind
+    pub pipe : report.pipe ≡ with_target s.kind
     pub standing :
         MayStand s.exporter
         → IsStandingReport (is_open s.exporter.log) (λ k. standing_at k s.exporter.log)

@@ -5,7 +5,7 @@ ghost use Rattle.core_setup.specs.Reports.{AreStanding, IsStandingReport, standi
 ghost use Rattle.room_report.specs.Described.{MayStand};
 ghost use Rattle.room_report.specs.Inside.{Adds, IsExportOf, Serves, lane, own_served, pipe_served, served_in};
 
-use crate::naming::{Way, copy_channel_name, is_direction};
+use crate::naming::{ChannelKind, copy_channel_name, is_direction};
 use attrs::{Attrs, Judge, Seq, Shared};
 use bits_ip::OutOfMemory;
 use export_core::{Exporter, Key};
@@ -55,7 +55,7 @@ fn add_own<J: Judge>(
         (own_served number (option_copied exporter.entry)) reports.old reports.new) }
 {
     match exporter {
-        Some(exporter) => add_export(alloc, names, number, Way::Own, exporter, reports),
+        Some(exporter) => add_export(alloc, names, number, ChannelKind::Own, exporter, reports),
         None => Ok(()),
     }
 }
@@ -70,24 +70,38 @@ fn add_pipe<J: Judge>(
     ensures { OnOk result (Adds (IsExportOf names.now)
         (pipe_served number pipe.now) reports.old reports.new) }
 {
-    add_export(alloc, names, number, Way::Export, &pipe.out, reports)?;
-    add_export(alloc, names, number, Way::Import, &pipe.back, reports)
+    add_export(
+        alloc,
+        names,
+        number,
+        ChannelKind::Export,
+        &pipe.out,
+        reports,
+    )?;
+    add_export(
+        alloc,
+        names,
+        number,
+        ChannelKind::Import,
+        &pipe.back,
+        reports,
+    )
 }
 
 fn add_export<J: Judge>(
     alloc: Global,
     names: &[Seq<u8>],
     number: usize,
-    way: Way,
+    kind: ChannelKind,
     exporter: &Exporter<J>,
     reports: &mut Seq<ExportReport>,
 ) -> Result<(), OutOfMemory>
     ensures { OnOk result (Adds (IsExportOf names.now)
-        (lane number way exporter.now ∷ []) reports.old reports.new) }
+        (lane number kind exporter.now ∷ []) reports.old reports.new) }
 {
-    let name = copy_channel_name(alloc, names, number, way)?;
+    let name = copy_channel_name(alloc, names, number, kind)?;
     let standing = report_standing(alloc, exporter)?;
-    let pipe = is_direction(way);
+    let pipe = is_direction(kind);
     reports.push(ExportReport {
         name,
         pipe,

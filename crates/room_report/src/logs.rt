@@ -3,7 +3,7 @@ ghost use Rattle.std.specs.Prelude.{◌≡◌, ◌∷◌, [], IfOk, OnOk, option
 ghost use Rattle.room_report.specs.Inside.{Adds, IsLogOf, Serves, lane, length_of, own_served, pipe_served, served_in};
 
 use crate::copies::copy_behind;
-use crate::naming::{Way, copy_channel_name, is_direction};
+use crate::naming::{ChannelKind, copy_channel_name, is_direction};
 use attrs::{Judge, Seq};
 use bits_ip::OutOfMemory;
 use export_core::Exporter;
@@ -60,7 +60,15 @@ fn add_own<J: Judge>(
         (own_served number (option_copied exporter.entry)) reports.old reports.new) }
 {
     match exporter {
-        Some(exporter) => add_log(alloc, names, logged, number, Way::Own, exporter, reports),
+        Some(exporter) => add_log(
+            alloc,
+            names,
+            logged,
+            number,
+            ChannelKind::Own,
+            exporter,
+            reports,
+        ),
         None => Ok(()),
     }
 }
@@ -81,7 +89,7 @@ fn add_pipe<J: Judge>(
         names,
         logged,
         number,
-        Way::Export,
+        ChannelKind::Export,
         &pipe.out,
         reports,
     )?;
@@ -90,7 +98,7 @@ fn add_pipe<J: Judge>(
         names,
         logged,
         number,
-        Way::Import,
+        ChannelKind::Import,
         &pipe.back,
         reports,
     )
@@ -101,17 +109,17 @@ fn add_log<J: Judge>(
     names: &[Seq<u8>],
     logged: &[usize],
     number: usize,
-    way: Way,
+    kind: ChannelKind,
     exporter: &Exporter<J>,
     reports: &mut Seq<ChannelReport>,
 ) -> Result<(), OutOfMemory>
     ensures { OnOk result (Adds (IsLogOf names.now logged.now)
-        (lane number way exporter.now ∷ []) reports.old reports.new) }
+        (lane number kind exporter.now ∷ []) reports.old reports.new) }
 {
-    let name = copy_channel_name(alloc, names, number, way)?;
+    let name = copy_channel_name(alloc, names, number, kind)?;
     let from = length_at(logged, reports.len());
     let items = copy_behind(alloc, exporter.items(), from)?;
-    let pipe = is_direction(way);
+    let pipe = is_direction(kind);
     reports.push(ChannelReport { name, pipe, items })?;
     Ok(())
 }

@@ -10,31 +10,31 @@ use sys_run::TableParts;
 
 /// What a channel is to its protocol: its only one, or one of a pipe's directions.
 #[derive(Clone, Copy)]
-pub(crate) enum Way {
+pub(crate) enum ChannelKind {
     Own,
     Export,
     Import,
 }
 
 /// What the name of such a channel has behind its protocol's.
-fn way_text(way: Way) -> &'static [u8]
-    ensures { result.now ≡ text_of way }
+fn kind_text(kind: ChannelKind) -> &'static [u8]
+    ensures { result.now ≡ text_of kind }
 {
-    match way {
-        Way::Own => b"",
-        Way::Export => b".export",
-        Way::Import => b".import",
+    match kind {
+        ChannelKind::Own => b"",
+        ChannelKind::Export => b".export",
+        ChannelKind::Import => b".import",
     }
 }
 
 /// Whether it is a direction of a pipe.
-pub(crate) fn is_direction(way: Way) -> bool
-    ensures { result ≡ with_target way }
+pub(crate) fn is_direction(kind: ChannelKind) -> bool
+    ensures { result ≡ with_target kind }
 {
-    match way {
-        Way::Own => false,
-        Way::Export => true,
-        Way::Import => true,
+    match kind {
+        ChannelKind::Own => false,
+        ChannelKind::Export => true,
+        ChannelKind::Import => true,
     }
 }
 
@@ -57,13 +57,13 @@ pub(crate) fn copy_channel_name(
     alloc: Global,
     names: &[Seq<u8>],
     number: usize,
-    way: Way,
+    kind: ChannelKind,
 ) -> Result<Seq<u8>, OutOfMemory>
     ensures { IfOk result
-        (λ name. name ≡ name_or_none (slice_get names.now number) ++ text_of way) }
+        (λ name. name ≡ name_or_none (slice_get names.now number) ++ text_of kind) }
 {
     let mut text = copy_name(alloc, names, number)?.into_vec();
-    text.extend_from_slice(way_text(way))?;
+    text.extend_from_slice(kind_text(kind))?;
     Ok(Seq::from_vec(text))
 }
 

@@ -14,7 +14,7 @@ use table_shared::TableCursor;
 
 /// Which of a member's channels reads.
 #[derive(Clone, Copy, Debug, PartialEq, Eq, Drop)]
-pub enum Way {
+pub enum Heading {
     /// The channel of a protocol with routes of its own, or the direction out of a pipe.
     Out,
     /// The direction back of a pipe.
@@ -26,7 +26,7 @@ pub enum Way {
 pub struct Reader {
     /// The number of the member.
     pub member: usize,
-    pub way: Way,
+    pub heading: Heading,
 }
 
 /// By the numbers of channels, which are also those of their cursors, who reads by them, and the
@@ -56,9 +56,9 @@ fn lane_number_of<R: Wait, J: Judge + Drop, P: Sends>(rt: &R, lock: &LaneLock<J,
 }
 
 /// Notes for which member, by which of its channels, is read by the cursor of a number.
-fn note(readers: &mut Vec<Option<Reader>>, number: usize, member: usize, way: Way) {
+fn note(readers: &mut Vec<Option<Reader>>, number: usize, member: usize, heading: Heading) {
     if let Some(place) = readers.get_mut(number) {
-        *place = Some(Reader { member, way });
+        *place = Some(Reader { member, heading });
     }
 }
 
@@ -70,7 +70,7 @@ fn note_own<R: Wait, J: Judge + Drop, P: Phase + Sends>(
     readers: &mut Vec<Option<Reader>>,
 ) {
     if let Some(channel) = &session.export {
-        note(readers, number_of(rt, channel), member, Way::Out);
+        note(readers, number_of(rt, channel), member, Heading::Out);
     }
 }
 
@@ -81,8 +81,13 @@ fn note_pipe<R: Wait, J: Judge + Drop, P: Phase + Sends>(
     member: usize,
     readers: &mut Vec<Option<Reader>>,
 ) {
-    note(readers, lane_number_of(rt, &pipe.out), member, Way::Out);
-    note(readers, lane_number_of(rt, &pipe.back), member, Way::Back);
+    note(readers, lane_number_of(rt, &pipe.out), member, Heading::Out);
+    note(
+        readers,
+        lane_number_of(rt, &pipe.back),
+        member,
+        Heading::Back,
+    );
 }
 
 /// The same of all members.

@@ -1,5 +1,5 @@
 //! How those who write a table have its cursors read on.
-use crate::channels::{Channels, Way};
+use crate::channels::{Channels, Heading};
 use attrs::Judge;
 use channel_turns::help_channel;
 use export_lock::Sends;
@@ -27,11 +27,11 @@ fn help_pipe<R: Wait, J: Judge + Drop, P: Phase + Sends>(
     alloc: Global,
     rt: &R,
     pipe: &PipeSession<J, P>,
-    way: Way,
+    heading: Heading,
 ) {
-    match way {
-        Way::Out => help_lane(alloc, rt, &pipe.out),
-        Way::Back => help_lane(alloc, rt, &pipe.back),
+    match heading {
+        Heading::Out => help_lane(alloc, rt, &pipe.out),
+        Heading::Back => help_lane(alloc, rt, &pipe.back),
     }
 }
 
@@ -59,7 +59,7 @@ impl<J: Judge + Drop, P: Phase + Sends> Helper for Help<'_, J, P> {
         };
         match member {
             Member::Own(session) => help_own(self.alloc, rt, session),
-            Member::Pipe(pipe) => help_pipe(self.alloc, rt, pipe, reader.way),
+            Member::Pipe(pipe) => help_pipe(self.alloc, rt, pipe, reader.heading),
         }
     }
 }

@@ -17,6 +17,6 @@ mod lanes;
 mod serving;
 mod spares;
 
-pub use channels::{Channels, Reader, Way};
+pub use channels::{Channels, Heading, Reader};
 pub use helping::Help;
 pub use serving::serve;

@@ -3,7 +3,7 @@ ghost use Rattle.std.specs.Prelude.{◌≡◌, ℕ, Some, slice_get};
 ghost use Rattle.room_members.specs.Members.{IsRoom};
 ghost use Rattle.room_members.specs.declared.member.Member.TheVariants.{Own, Pipe};
 
-use crate::channels::{Channels, Reader, Way};
+use crate::channels::{Channels, Heading, Reader};
 use crate::helping::Help;
 use crate::lanes::{serve_back, serve_out};
 use attrs::Judge;
@@ -56,14 +56,14 @@ fn serve_pipe<R: Wait, G: Gate, H: Helper, J: Judge + Drop, P: Phase + Sends>(
     helper: &H,
     room: &Room<J, P>,
     pipe: &PipeSession<J, P>,
-    way: Way,
+    heading: Heading,
 ) -> Result<bool, OpFault>
     requires room { IsRoom P.terms P.exports P.rules room.now }
     requires there { (number : ℕ) × (slice_get room.now.members.items number ≡ Some (Pipe pipe.now)) }
 {
-    match way {
-        Way::Out => serve_out(alloc, rt, gate, helper, room, pipe),
-        Way::Back => serve_back(alloc, rt, gate, helper, room, pipe),
+    match heading {
+        Heading::Out => serve_out(alloc, rt, gate, helper, room, pipe),
+        Heading::Back => serve_back(alloc, rt, gate, helper, room, pipe),
     }
 }
 
@@ -84,7 +84,7 @@ fn serve_reader<R: Wait, G: Gate, H: Helper, J: Judge + Drop, P: Phase + Sends>(
     }
     match &room.members[number] {
         Member::Own(session) => serve_own(alloc, rt, gate, room, session),
-        Member::Pipe(pipe) => serve_pipe(alloc, rt, gate, helper, room, pipe, reader.way),
+        Member::Pipe(pipe) => serve_pipe(alloc, rt, gate, helper, room, pipe, reader.heading),
     }
 }
 
