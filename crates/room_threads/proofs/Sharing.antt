@@ -8,7 +8,6 @@ use denote.RattleType.{RattleType}
 use denote.Struct.Declared.{shape}
 use denote.Struct.Field.{rows}
 use denote.Struct.Tuple.{TupleAt, parts, type_at}
-use Rattle.std.specs.contracts.sync.atomic.AtomicBool as flag
 use Rattle.std.proofs.Crossing.{crosses, Vec-sync}
 use Rattle.std.specs.contracts.alloc.Global as heap
 use Rattle.std.specs.contracts.impls.GlobalAllocator.TheImpl.{ghosts}
@@ -35,9 +34,6 @@ queries_sync = Vec-sync _ query_shared.the_sync
 
 pub lines_sync : IsSync (vec.the_row line.the_row heap.the_row ghosts)
 lines_sync = Vec-sync _ line_shared.the_sync
-
-pub flag_sync : IsSync flag.the_row
-flag_sync = search (sendable, crosses)
 
 pub number_send : IsSend (UInt w64)
 number_send = search sendable

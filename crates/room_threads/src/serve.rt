@@ -14,12 +14,11 @@ use import_lock::{Helper, OpFault, Phase};
 use outside_io::Gate;
 use phase_actors::{Actor, Answers};
 use room_members::Room;
-use room_workers::{Channels, serve};
+use room_workers::{Bell, Channels, serve};
 use script_lines::Line;
 use show_route::Query;
 use std::alloc::Global;
 use std::sync::Wait;
-use std::sync::atomic::{AtomicBool, Ordering};
 use std::thread;
 use std::thread::{JoinHandle, Scope, Threads};
 
@@ -39,14 +38,14 @@ fn start_worker<
     room: &'s Room<J, P>,
     channels: &'s Channels,
     worker: usize,
-    ended: &'s AtomicBool,
+    bell: &'s Bell,
 ) -> Option<JoinHandle<Result<(), OpFault>>>
     requires room { IsRoom P.terms P.exports P.rules room.now }
 {
     match scope.spawn(
         move || -> Result<(), OpFault>
             requires { IsRoom P.terms P.exports P.rules room.now }
-        { serve(alloc, rt, gate, room, channels, worker, ended) },
+        { serve(alloc, rt, gate, room, channels, worker, bell) },
     ) {
         Ok(handle) => Some(handle),
         Err(_) => None,
@@ -58,6 +57,13 @@ fn start_worker<
 fn finish_worker<R: Threads>(rt: &R, worker: Option<JoinHandle<Result<(), OpFault>>>) {
     if let Some(handle) = worker {
         let _ = handle.join(rt);
+    }
+}
+
+/// Tells all workers that the actors have ended.
+fn ring_all(bells: &[Bell]) {
+    for bell in bells {
+        bell.ring();
     }
 }
 
@@ -89,8 +95,8 @@ pub fn act_and_serve<
     ensures { IfOk result (λ all.
         HaveActed P.terms room.now (map number_of actors.items) all.items) }
 {
-    let ended = AtomicBool::new(false);
-    let ended = &ended;
+    let bells = [Bell::new(), Bell::new(), Bell::new(), Bell::new()];
+    let bells = &bells;
     thread::scope(
         thread::scope_env(),
         rt,
@@ -101,14 +107,14 @@ pub fn act_and_serve<
             ensures { IfOk result (λ all. HaveActed P.terms room.entry.now
                 (map number_of actors.items) all.items) }
         {
-            let one = start_worker(alloc, scope, rt, gate, room, channels, 0, ended);
-            let two = start_worker(alloc, scope, rt, gate, room, channels, 1, ended);
-            let three = start_worker(alloc, scope, rt, gate, room, channels, 2, ended);
-            let four = start_worker(alloc, scope, rt, gate, room, channels, 3, ended);
+            let one = start_worker(alloc, scope, rt, gate, room, channels, 0, &bells[0]);
+            let two = start_worker(alloc, scope, rt, gate, room, channels, 1, &bells[1]);
+            let three = start_worker(alloc, scope, rt, gate, room, channels, 2, &bells[2]);
+            let four = start_worker(alloc, scope, rt, gate, room, channels, 3, &bells[3]);
             let all = act_in(
                 alloc, scope, rt, gate, helper, answers, room, queries, lines, actors,
             );
-            ended.store(true, Ordering::SeqCst);
+            ring_all(bells);
             finish_worker(rt, one);
             finish_worker(rt, two);
             finish_worker(rt, three);

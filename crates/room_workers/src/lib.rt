@@ -11,12 +11,16 @@
 //! do, but that locks keep what they keep.
 #![tactic(auto)]
 
+mod bell;
 mod channels;
 mod helping;
 mod lanes;
+mod pace;
 mod serving;
 mod spares;
+mod taking;
 
+pub use bell::Bell;
 pub use channels::{Channels, Heading, Reader};
 pub use helping::Help;
 pub use serving::serve;

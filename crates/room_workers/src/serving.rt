@@ -3,9 +3,12 @@ ghost use Rattle.std.specs.Prelude.{◌≡◌, ℕ, Some, slice_get};
 ghost use Rattle.room_members.specs.Members.{IsRoom};
 ghost use Rattle.room_members.specs.declared.member.Member.TheVariants.{Own, Pipe};
 
+use crate::bell::Bell;
 use crate::channels::{Channels, Heading, Reader};
 use crate::helping::Help;
 use crate::lanes::{serve_back, serve_out};
+use crate::pace::Pace;
+use crate::taking::take_some;
 use attrs::Judge;
 use channel_turns::serve_channel;
 use export_lock::Sends;
@@ -16,22 +19,21 @@ use phase_room::Session;
 use room_members::{Member, Room};
 use std::alloc::Global;
 use std::sync::Wait;
-use std::sync::atomic::{AtomicBool, Ordering};
-use std::thread::Parker;
 use std::time::Duration;
 
-/// For how many microseconds a worker sleeps that found nothing to do. Its channels may lag so
-/// long: who writes a table that has no room helps itself.
-const IDLE: u64 = 100;
+/// For how many microseconds a worker sleeps while actors act. Its channels may lag so long: who
+/// writes a table that has no room helps itself.
+const REST: u64 = 250;
 
-/// Some turns of the channel of a protocol with routes of its own, where it has one. Tells whether
-/// there was anything to do.
+/// Some turns of the channel of a protocol with routes of its own, where it has one; it takes
+/// entries alone where it isn't to send. Tells whether there was anything to do.
 fn serve_own<R: Wait, G: Gate, J: Judge + Drop, P: Phase + Sends>(
     alloc: Global,
     rt: &R,
     gate: &G,
     room: &Room<J, P>,
     session: &Session<J, P>,
+    sends: bool,
 ) -> Result<bool, OpFault>
     requires room { IsRoom P.terms P.exports P.rules room.now }
     requires there { (number : ℕ) × (slice_get room.now.members.items number ≡ Some (Own session.now)) }
@@ -39,7 +41,12 @@ fn serve_own<R: Wait, G: Gate, J: Judge + Drop, P: Phase + Sends>(
     match &session.export {
         Some(channel) => {
             let table = &room.tables[session.table as usize];
-            match serve_channel(alloc, rt, gate, table, channel) {
+            let busy = if sends {
+                serve_channel(alloc, rt, gate, table, channel)
+            } else {
+                take_some(alloc, rt, gate, channel)
+            };
+            match busy {
                 Ok(busy) => Ok(busy),
                 Err(_) => Err(OpFault::Memory),
             }
@@ -48,7 +55,7 @@ fn serve_own<R: Wait, G: Gate, J: Judge + Drop, P: Phase + Sends>(
     }
 }
 
-/// The same of a direction of a pipe.
+/// Some turns of a direction of a pipe, which brings what it reads to its other table at once.
 fn serve_pipe<R: Wait, G: Gate, H: Helper, J: Judge + Drop, P: Phase + Sends>(
     alloc: Global,
     rt: &R,
@@ -75,6 +82,7 @@ fn serve_reader<R: Wait, G: Gate, H: Helper, J: Judge + Drop, P: Phase + Sends>(
     helper: &H,
     room: &Room<J, P>,
     reader: Reader,
+    sends: bool,
 ) -> Result<bool, OpFault>
     requires room { IsRoom P.terms P.exports P.rules room.now }
 {
@@ -83,12 +91,13 @@ fn serve_reader<R: Wait, G: Gate, H: Helper, J: Judge + Drop, P: Phase + Sends>(
         return Ok(false);
     }
     match &room.members[number] {
-        Member::Own(session) => serve_own(alloc, rt, gate, room, session),
+        Member::Own(session) => serve_own(alloc, rt, gate, room, session, sends),
         Member::Pipe(pipe) => serve_pipe(alloc, rt, gate, helper, room, pipe, reader.heading),
     }
 }
 
-/// Some turns of each channel and direction of a worker. Tells whether there was anything to do.
+/// Some turns of each channel and direction of a worker; channels to neighbours take entries alone
+/// where they aren't to send. Tells whether there was anything to do.
 fn serve_all<R: Wait, G: Gate, H: Helper, J: Judge + Drop, P: Phase + Sends>(
     alloc: Global,
     rt: &R,
@@ -97,6 +106,7 @@ fn serve_all<R: Wait, G: Gate, H: Helper, J: Judge + Drop, P: Phase + Sends>(
     room: &Room<J, P>,
     channels: &Channels,
     worker: usize,
+    sends: bool,
 ) -> Result<bool, OpFault>
     requires room { IsRoom P.terms P.exports P.rules room.now }
 {
@@ -104,7 +114,7 @@ fn serve_all<R: Wait, G: Gate, H: Helper, J: Judge + Drop, P: Phase + Sends>(
     for channel in 0..channels.count() {
         if channel % 4 == worker {
             if let Some(reader) = channels.reader(channel) {
-                busy |= serve_reader(alloc, rt, gate, helper, room, reader)?;
+                busy |= serve_reader(alloc, rt, gate, helper, room, reader, sends)?;
             }
         }
     }
@@ -120,18 +130,21 @@ fn serve_on<R: Wait, G: Gate, H: Helper, J: Judge + Drop, P: Phase + Sends>(
     room: &Room<J, P>,
     channels: &Channels,
     worker: usize,
-    ended: &AtomicBool,
+    bell: &Bell,
 ) -> Result<(), OpFault>
     requires room { IsRoom P.terms P.exports P.rules room.now }
 {
-    let parker = Parker::new();
+    let mut pace = Pace::new();
     for _ in rt.forever() {
-        let is_last = ended.load(Ordering::SeqCst);
-        if !serve_all(alloc, rt, gate, helper, room, channels, worker)? {
-            if is_last {
-                return Ok(());
-            }
-            parker.park_timeout(rt, Duration::from_micros(IDLE));
+        let is_last = bell.has_rung();
+        let sends = is_last | pace.sends();
+        let busy = serve_all(alloc, rt, gate, helper, room, channels, worker, sends)?;
+        if is_last & !busy {
+            return Ok(());
+        }
+        if !is_last {
+            pace.note(busy);
+            bell.wait(rt, Duration::from_micros(REST));
         }
     }
     unreachable!()
@@ -152,7 +165,7 @@ pub fn serve<R: Wait, G: Gate, J: Judge + Drop, P: Phase + Sends>(
     room: &Room<J, P>,
     channels: &Channels,
     worker: usize,
-    ended: &AtomicBool,
+    bell: &Bell,
 ) -> Result<(), OpFault>
     requires room { IsRoom P.terms P.exports P.rules room.now }
 {
@@ -161,5 +174,5 @@ pub fn serve<R: Wait, G: Gate, J: Judge + Drop, P: Phase + Sends>(
         room,
         channels,
     };
-    serve_on(alloc, rt, gate, &helper, room, channels, worker, ended)
+    serve_on(alloc, rt, gate, &helper, room, channels, worker, bell)
 }

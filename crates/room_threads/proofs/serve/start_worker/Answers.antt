@@ -6,7 +6,8 @@ use denote.Param.Send.{arg_send, param_send, shr_send}
 use mir.Syntax.{named}
 use Rattle.std.proofs.Crossing.{send}
 use Rattle.room_workers.proofs.channels.Channels.TheSendSync as channels
-use Rattle.room_threads.proofs.Sharing.{flag_sync, number_send, room_sync, tuple_send}
+use Rattle.room_workers.proofs.bell.Bell.TheSendSync as bell
+use Rattle.room_threads.proofs.Sharing.{number_send, room_sync, tuple_send}
 use Rattle.room_threads.proofs.serve.start_worker.Goals as goal
 
 -- the closure by its name, its references by their lifetimes: with less told the room is unfolded
@@ -26,7 +27,7 @@ spawn-requires-send-F g c κs within =
               (
                 number_send,
                 (
-                  shr_send (named 9) κs.1.1.1.1.1.1.1.1.1.0 _ flag_sync,
+                  shr_send (named 9) κs.1.1.1.1.1.1.1.1.1.0 _ bell.the_sync,
                   tt,
                 ),
               ),
