@@ -3,9 +3,10 @@
 
     bench/run.py PROGRAM [ADDS ..]
 
-Eight neighbours export all to each other (load c of play.py), with filters that let all pass at once, and with filters of
-1,000 conditions. Each command runs three times, of which the shortest by the clock counts, with the seconds of all its
-processors beside it, and once more for the greatest memory. The states at the end must be the same.
+Eight neighbours export all to each other (load c of play.py), with filters that let all pass at once, with filters of 1,000
+conditions over lengths of paths, which cost some nanoseconds each, and with filters of 1,000 masks of paths. Each command
+runs three times, of which the shortest by the clock counts, with the seconds of all its processors beside it, and once more
+for the greatest memory. The states at the end must be the same.
 """
 
 import pathlib
@@ -28,9 +29,17 @@ def light():
     return "".join(neighbour(number, "all") for number in NEIGHBOURS)
 
 
-def heavy():
-    tests = " ".join(f"if bgp_path.len = {100 + number} then reject;" for number in range(CONDITIONS))
+def filtered(condition):
+    tests = " ".join(f"if {condition(number)} then reject;" for number in range(CONDITIONS))
     return f"filter slow {{ {tests} accept; }}\n" + "".join(neighbour(number, "filter slow") for number in NEIGHBOURS)
+
+
+def heavy():
+    return filtered(lambda number: f"bgp_path.len = {100 + number}")
+
+
+def masks():
+    return filtered(lambda number: f"bgp_path ~ [= * {4_200_000_000 + number} * =]")
 
 
 def seconds(command):
@@ -52,7 +61,7 @@ def main():
     print(f"{'filters':8} {'adds':>7} {'command':>8} {'clock':>8} {'seconds':>8} {'MiB':>7}")
     with tempfile.TemporaryDirectory() as name:
         folder = pathlib.Path(name)
-        for kind, conf in [("light", light()), ("heavy", heavy())]:
+        for kind, conf in [("light", light()), ("heavy", heavy()), ("masks", masks())]:
             for count in sizes:
                 (folder / "conf").write_text(conf)
                 (folder / "script").write_text("".join(f"{line}\n" for line in eight_neighbours(count) + ["sync"]))
