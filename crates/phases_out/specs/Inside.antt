@@ -1,6 +1,6 @@
 -- For private contracts alone: what is written while phases are played (`PlayedBy`) or run by
--- threads (`RunBy`), phase by phase (`HasWritten`, `RunsOne`), and why that stops (`StopsSo`).
-use Rattle.std.specs.Prelude.{◌≡◌, ◌⊎◌, ℕ, List, [], ◌∷◌, ◌++◌, map, Option, ⊤}
+-- threads (`RunBy`), phase by phase (`HasWritten`, `RunsOne`), and what cuts that off (`CutsOff`).
+use Rattle.std.specs.Prelude.{◌≡◌, ◌⊎◌, ℕ, List, [], ◌∷◌, ◌++◌, map, Option}
 use Rattle.std.specs.Io.KnownBytes.{Appends}
 use Rattle.std.specs.List.{flat_map}
 use Rattle.attrs.specs.declared.judge.Verdict.{Verdict}
@@ -16,13 +16,9 @@ use Rattle.sys_run.specs.Playing as core
 use Rattle.sys_run.specs.Scripts.{phase_of}
 use Rattle.sys_run.specs.declared.player.Core.{Core}
 use Rattle.sys_threads.specs.Running as threads
-use Rattle.sys_threads.specs.declared.fault.RunFault.{RunFault}
-use Rattle.sys_threads.specs.declared.fault.RunFault.TheVariants as faults
 use Rattle.sys_threads.specs.declared.runner.Runner.{Runner}
 use Rattle.phases_out.specs.declared.ending.Ending.{Ending}
 use Rattle.phases_out.specs.declared.ending.Ending.TheVariants.{OutOfMemory, SinkFailed}
-use Rattle.phases_out.specs.declared.run.Stop.{Stop}
-use Rattle.phases_out.specs.declared.run.Stop.TheVariants.{Late, With}
 
 module _ {J : Type 0} (verdict : J → Net → Route → Verdict) (setup : Setup) (actors : List (List ℕ))
   where
@@ -60,19 +56,3 @@ pub record RunsOne
       → RunBy verdict setup actors next (scripts ++ phase_of setup.queries lines ∷ [])
       (reports ++ report ∷ [])
   pub said : P report
-
--- why a run stops where a phase isn't run to its end: so many positions don't fit in memory
-abbrev pub stop_of : RunFault → Stop
-stop_of faults.Late = Late
-stop_of (faults.Ended head) = With OutOfMemory
-stop_of faults.Memory = With OutOfMemory
-
--- What is owed where a run stops: this where threads can't run it, or that of its ending.
-abbrev pub StopsSo : Type 0 → (Ending → Type 0) → Stop → Type 0
-StopsSo late ends Late = late
-StopsSo late ends (With ending) = ends ending
-
--- it stops with an ending that cuts off what is written
-abbrev pub StopsOff : Stop → Type 0
-StopsOff Late = ⊤
-StopsOff (With ending) = CutsOff ending

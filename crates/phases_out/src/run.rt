@@ -15,9 +15,9 @@ ghost use Rattle.sys_threads.specs.Playing.{setup_lent};
 ghost use Rattle.sys_threads.specs.Running.{CanPlay, HasRun};
 ghost use Rattle.sys_threads.specs.declared.runner.Runner.{Runner as HeldRunner};
 ghost use Rattle.phases_out.specs.Given.{FitTables, NameSome};
-ghost use Rattle.phases_out.specs.Inside.{HasWritten, RunsOne, StopsOff, StopsSo};
+ghost use Rattle.phases_out.specs.Inside.{CutsOff, HasWritten, RunsOne};
 ghost use Rattle.phases_out.specs.Written.{AreRun, Ends};
-ghost use Rattle.phases_out.specs.declared.run.Stop.TheVariants.{Late, With};
+ghost use Rattle.phases_out.specs.declared.ending.Ending.TheVariants.{OutOfMemory as WantOfMemory};
 
 use crate::ending::Ending;
 use crate::output::{write_end, write_phase};
@@ -32,35 +32,15 @@ use std::sync::Wait;
 use std::thread::Threads;
 use sys_threads::{LentParts, RunFault, Runner, can_run};
 
-/// Why a run by threads stops before its last phase.
-#[derive(Drop)]
-enum Stop {
-    /// Threads can't run it. Nothing is written.
-    Late,
-    /// It ended so.
-    With(Ending),
-}
-
-impl From<RunFault> for Stop {
-    ghost use Rattle.phases_out.specs.Inside.{stop_of};
-
-    ghost from_gives = { λ fault stop. stop ≡ stop_of fault };
+impl From<RunFault> for Ending {
+    ghost from_gives = { λ _ ending. ending ≡ WantOfMemory };
 
     fn from(fault: RunFault) -> Self {
         match fault {
-            RunFault::Late => Stop::Late,
             // So many positions don't fit in memory.
-            RunFault::Ended { .. } => Stop::With(Ending::OutOfMemory),
-            RunFault::Memory => Stop::With(Ending::OutOfMemory),
+            RunFault::Ended { .. } => Ending::OutOfMemory,
+            RunFault::Memory => Ending::OutOfMemory,
         }
-    }
-}
-
-impl From<Ending> for Stop {
-    ghost from_gives = { λ ending stop. stop ≡ With ending };
-
-    fn from(ending: Ending) -> Self {
-        Stop::With(ending)
     }
 }
 
@@ -91,7 +71,7 @@ pub fn run_all<'p, R: Threads + Wait + Sync, G: Gate + Sync, J: Judge + Drop + S
         return None;
     }
     match Runner::of(alloc, hasher, lent, actors.len()) {
-        Ok(runner) => run_by_runner(rt, alloc, gate, form, runner, actors, phases, out),
+        Ok(runner) => Some(run_by_runner(rt, alloc, gate, form, runner, actors, phases, out)),
         Err(OutOfMemory) => Some(Ending::OutOfMemory),
     }
 }
@@ -106,20 +86,18 @@ fn run_by_runner<'p, R: Threads + Wait + Sync, G: Gate + Sync, J: Judge + Drop +
     actors: &[Name],
     phases: &[Vec<Line>],
     out: &mut K,
-) -> Option<Ending>
+) -> Ending
     requires start { (setup : Setup) × HasRun J.verdict setup actors.now [] [] runner
         × NameSome setup (length actors.now) (map (λ phase. phase.items) phases.now)
         × FitTables setup (map (λ phase. phase.items) phases.now)
         × All (λ (phase : Held HeldLine Heap). length phase.items < 2 ^ 32) phases.now }
     ensures { (setup : Setup) → HasRun J.verdict setup actors.now [] [] runner.entry
-        → MatchOption result (out.new ≡ out.old)
-        (Ends (AreRun setup actors.now) (map (λ phase. phase.items) phases.now) form
-        (K.contents out.old) (K.contents out.new) (K.faults out.old) (K.faults out.new)) }
+        → Ends (AreRun setup actors.now) (map (λ phase. phase.items) phases.now) form
+        (K.contents out.old) (K.contents out.new) (K.faults out.old) (K.faults out.new) result }
 {
     match run_each(rt, alloc, gate, form, runner, actors, phases, out) {
-        Ok(()) => Some(write_end(out)),
-        Err(Stop::Late) => None,
-        Err(Stop::With(ending)) => Some(ending),
+        Ok(()) => write_end(out),
+        Err(ending) => ending,
     }
 }
 
@@ -133,7 +111,7 @@ fn run_each<'p, R: Threads + Wait + Sync, G: Gate + Sync, J: Judge + Drop + Sync
     actors: &[Name],
     phases: &[Vec<Line>],
     out: &mut K,
-) -> Result<(), Stop>
+) -> Result<(), Ending>
     requires start { (setup : Setup) × HasRun J.verdict setup actors.now [] [] runner
         × NameSome setup (length actors.now) (map (λ phase. phase.items) phases.now)
         × FitTables setup (map (λ phase. phase.items) phases.now)
@@ -142,12 +120,12 @@ fn run_each<'p, R: Threads + Wait + Sync, G: Gate + Sync, J: Judge + Drop + Sync
         → HasRun J.verdict setup actors.now [] [] runner.entry
         → HasWritten (IsLegalPlay setup actors.now) setup (map (λ phase. phase.items) phases.now)
         form (K.contents out.old) (K.contents out.new)) }
-    ensures stopped { IfErr result (StopsSo (out.new ≡ out.old) (λ ending. (setup : Setup)
+    ensures stopped { IfErr result (λ ending. (setup : Setup)
         → HasRun J.verdict setup actors.now [] [] runner.entry
         → Ends (AreRun setup actors.now) (map (λ phase. phase.items) phases.now) form
         (K.contents out.old) (K.contents out.new) (K.faults out.old) (K.faults out.new)
-        ending)) }
-    ensures cut { IfErr result StopsOff }
+        ending) }
+    ensures cut { IfErr result CutsOff }
     ensures later { K.faults out.old ≤ K.faults out.new }
 {
     let mut runner = runner;
@@ -167,24 +145,20 @@ fn run_phase<'p, R: Threads + Wait + Sync, G: Gate + Sync, J: Judge + Drop + Syn
     actors: &[Name],
     lines: &Vec<Line>,
     out: &mut K,
-) -> Result<Runner<'p, J>, Stop>
+) -> Result<Runner<'p, J>, Ending>
     requires { (setup : Setup) × (scripts : List (List MachineLine)) × (reports : List Report)
         × HasRun J.verdict setup actors.now scripts reports runner
         × CanPlay setup (length actors.now) lines.now.items }
     ensures run { IfOk result (λ next.
         RunsOne J.verdict actors.now lines.now.items runner.entry next
         (λ report. Appends (K.contents out.old) (K.contents out.new) (text_in form report))) }
-    ensures late { result ≡ Err Late → out.new ≡ out.old }
-    ensures first { result ≡ Err Late → (setup : Setup) (scripts : List (List MachineLine))
-        (reports : List Report) → HasRun J.verdict setup actors.now scripts reports runner.entry
-        → scripts ≡ [] }
-    ensures cut { IfErr result StopsOff }
-    ensures front { result ≡ Err (With Ending.SinkFailed) → (next : HeldRunner J)
+    ensures cut { IfErr result CutsOff }
+    ensures front { result ≡ Err Ending.SinkFailed → (next : HeldRunner J)
         × RunsOne J.verdict actors.now lines.now.items runner.entry next
         (λ report. WritesFront (K.contents out.old) (K.contents out.new) (text_in form report)) }
-    ensures nothing { result ≡ Err (With Ending.OutOfMemory)
+    ensures nothing { result ≡ Err Ending.OutOfMemory
         → Keeps (K.contents out.old) (K.contents out.new) }
-    ensures write { result ≡ Err (With Ending.SinkFailed)
+    ensures write { result ≡ Err Ending.SinkFailed
         → Rose (K.faults out.old) (K.faults out.new) }
     ensures later { K.faults out.old ≤ K.faults out.new }
 {

@@ -67,7 +67,7 @@ pub(crate) fn copy_channel_name(
     Ok(Seq::from_vec(text))
 }
 
-/// The same of the table of this number.
+/// A copy of the name of the table of this number, which is empty where there is none.
 pub(crate) fn copy_table_name(
     alloc: Global,
     tables: &[TableParts],

@@ -1,4 +1,7 @@
 mod Starters
+mod Turns
+mod Locks
+mod Hearing
 mod Seats
 mod Rooms
 mod Sharing

@@ -1,7 +1,8 @@
 -- From a phase that was opened to actors that can act and seats for starts, and from what all have
 -- come to, to a room that was played.
-use Rattle.std.proofs.Common.{◌≡◌, ℕ, List, [], length, map, get_or, Some, sym, ap, subst, ◌∙◌, arith}
+use Rattle.std.proofs.Common.{◌≡◌, ◌+◌, ℕ, List, [], length, map, get_or, Some, sym, ap, subst, ◌∙◌, arith}
 use Rattle.std.specs.Prelude.{slice_get}
+use Rattle.std.specs.List.{All}
 use Rattle.std.proofs.lemmas.List.{length-map}
 use Rattle.std.proofs.lemmas.Option.{slice_get-get_or}
 use Rattle.atomic_table.specs.Seated.{TableId}
@@ -22,12 +23,13 @@ use Rattle.phase_actors.specs.Acting.{IsDoing}
 use Rattle.room_actors.specs.Script.{IsScript}
 use Rattle.phase_actors.specs.declared.actor.Actor.{Actor}
 use Rattle.phase_actors.proofs.Places.{get_map}
+use Rattle.room_threads.specs.Acted.{IsReady}
 use Rattle.room_threads.specs.Started.{HaveActed, acted_number, number_of}
 use Rattle.room_threads.specs.declared.actor.Acted.{Acted}
 use Rattle.phase_open.specs.declared.standing.StandingTable.{StandingTable}
 use Rattle.phase_close.specs.Rooms.{HandsView}
 use Rattle.phase_close.specs.Whole.{PassesView}
-use Rattle.room_members.specs.Members.{room_seen, turns_of}
+use Rattle.room_members.specs.Members.{IsRoom, room_seen, turns_of}
 use Rattle.room_members.specs.declared.member.Member.{Member}
 use Rattle.room_members.specs.declared.member.Member.TheVariants as member
 use Rattle.room_members.specs.declared.room.Room.{Room}
@@ -37,25 +39,25 @@ use Rattle.room_open.specs.declared.standing.StandingMember.{StandingMember}
 use Rattle.room_open.specs.declared.standing.StandingMember.TheVariants.{Own, Pipe}
 use Rattle.room_ends.specs.declared.ended.RoomEnded.{RoomEnded}
 use Rattle.room_ends.specs.Synced.{IsSynced}
-use Rattle.room_run.specs.Inside.{AreAmong, AreDealt, AreStartSeats, CanAct, HaveAllActed, HaveStarted, actor_of}
+use Rattle.room_run.specs.Inside.{AreAmong, AreDealt, AreNew, AreStartSeats, HaveAllActed, HaveStarted, actor_of}
 use Rattle.room_ends.specs.Played.{IsPlayed, starts_of}
 use Rattle.room_run.specs.declared.dealing.Dealt.{Dealt}
 
 -- ---- as the phase begins
 
 module _ {J P : Type 0} (terms : P → PhaseTerms) (exports : P → ℕ → Exports) (rules : P → Rules) (played : P) (tables : List StandingTable) where
-  open_start : (number : ℕ) (held : StandingMember J) (one : Member J P) → IsOpenMember terms exports rules played tables number held one → (turns_of terms one).1.start ≡ 0
-  open_start number (Own held) (member.Own session) is = ap (λ (z : Terms ℕ). z.start) is.turns
-  open_start number (Own held) (member.Pipe pipe) is = absurd is
-  open_start number (Pipe held) (member.Own session) is = absurd is
-  open_start number (Pipe held) (member.Pipe pipe) is = ap (λ (z : Terms ℕ). z.start) is.turns
+  open_hands : (number : ℕ) (held : StandingMember J) (one : Member J P) → IsOpenMember terms exports rules played tables number held one → (turns_of terms one).1.opening ≡ (terms played).starter + 1
+  open_hands number (Own held) (member.Own session) is = ap (λ (z : Terms ℕ). z.opening) is.turns
+  open_hands number (Own held) (member.Pipe pipe) is = absurd is
+  open_hands number (Pipe held) (member.Own session) is = absurd is
+  open_hands number (Pipe held) (member.Pipe pipe) is = ap (λ (z : Terms ℕ). z.opening) is.turns
 
 module _ {J P : Type 0} (terms : P → PhaseTerms) (exports : P → ℕ → Exports) (rules : P → Rules) (played : P) (tables : List StandingTable) (held : List (StandingMember J)) (opening : Opening J P) (o : IsOpening terms exports rules played tables held opening) where
   same_starter : (terms played).starter ≡ (terms opening.room.played.value).starter
   same_starter = ap (λ z. (terms z).starter) (sym o.played_is)
 
-  turns_start : (number : ℕ) (turns : TableId × Terms ℕ) → slice_get (room_seen terms opening.room).turns number ≡ Some turns → turns.1.start ≡ 0
-  turns_start number turns here =
+  turns_hands : (number : ℕ) (turns : TableId × Terms ℕ) → slice_get (room_seen terms opening.room).turns number ≡ Some turns → turns.1.opening ≡ (terms opening.room.played.value).starter + 1
+  turns_hands number turns here =
       let all = opening.room.members.items in
       let inside = get_within (room_seen terms opening.room).turns number turns here in
       let many = length-map all (turns_of terms) in
@@ -63,7 +65,8 @@ module _ {J P : Type 0} (terms : P → PhaseTerms) (exports : P → ℕ → Expo
       let count = o.members_count in
       let stood = get_here held number (omega (arith, inside, many, count)) in
       let same = get_one (room_seen terms opening.room).turns number (turns_of terms one.0) turns (get_map (turns_of terms) all number one.0 one.1) here in
-      ap (λ (z : TableId × Terms ℕ). z.1.start) (sym same) ∙ open_start terms exports rules played tables number stood.0 one.0 (o.members_are number stood.0 one.0 stood.1 one.1)
+      ap (λ (z : TableId × Terms ℕ). z.1.opening) (sym same) ∙ open_hands terms exports rules played tables number stood.0 one.0 (o.members_are number stood.0 one.0 stood.1 one.1)
+      ∙ ap (λ n. n + 1) same_starter
 
   pub start_seats : AreStartSeats terms opening.room opening.starters.items opening.passes.items
   start_seats = record {
@@ -72,7 +75,7 @@ module _ {J P : Type 0} (terms : P → PhaseTerms) (exports : P → ℕ → Expo
       each = λ number turns hand here at. record {
         journal_is = (o.starters.each number turns hand here at).0;
         number_is = (o.starters.each number turns hand here at).1 ∙ same_starter;
-        begins = ap (λ (z : TableId × Terms ℕ). z.1.start) (o.starters.each number turns hand here at).0 ∙ turns_start number turns here;
+        hands_are = ap (λ (z : TableId × Terms ℕ). z.1.opening) (o.starters.each number turns hand here at).0 ∙ turns_hands number turns here;
       };
     };
     passes_are = o.passes;
@@ -86,35 +89,40 @@ module _ {J P : Type 0} (terms : P → PhaseTerms) (exports : P → ℕ → Expo
       let new = o.starters.each number turns.0 hand turns.1 at in
       record { number_is = new.1 ∙ same_starter; starts_alone = subst AreStarts (sym new.2) tt; count = ap length new.2 }
 
-  pub can_act : (answers : Setup) (queries : List Query) (lines : List Line) → IsScript terms opening.room queries lines → answers ≡ (terms opening.room.played.value).setup
-      → CanAct terms exports rules answers opening.room queries lines opening.actors.items
-  can_act answers queries lines script same = record {
+  pub are_new : AreNew terms opening.room opening.actors.items
+  are_new = record {
     count = o.actors_count ∙ same_starter;
-    numbers = λ k actor at. (o.actors k actor at).0;
-    ready = λ k d less. record {
-      room_is = o.room;
-      setup = same;
-      script = script;
-      new = subst (λ z. IsDoing (terms z).setup (room_seen terms opening.room) [] (get_or opening.actors.items k d)) (sym o.played_is)
-          (o.actors k (get_or opening.actors.items k d) (slice_get-get_or opening.actors.items k d less)).1;
-    };
+    each = λ k actor at. (
+      (o.actors k actor at).0,
+      subst (λ z. IsDoing (terms z).setup (room_seen terms opening.room) [] actor) (sym o.played_is) (o.actors k actor at).1,
+    );
   }
 
 -- ---- once all have acted
 
 module _ {J P : Type 0} (terms : P → PhaseTerms) (exports : P → ℕ → Exports) (rules : P → Rules) (room : Room J P) where
-  pub all_acted : (answers : Setup) (queries : List Query) (lines : List Line) (actors : List Actor) (all : List Acted) → CanAct terms exports rules answers room queries lines actors → HaveActed terms room (map number_of actors) all → HaveAllActed terms room all
-  all_acted answers queries lines actors all can acted =
+  -- new actors can begin
+  pub all_ready : (answers : Setup) (queries : List Query) (lines : List Line) (actors : List Actor) → IsRoom terms exports rules room → IsScript terms room queries lines → answers ≡ (terms room.played.value).setup
+      → AreNew terms room actors → All (IsReady terms exports rules answers room queries lines) actors
+  all_ready answers queries lines actors is script same are k d less = record {
+    room_is = is;
+    setup = same;
+    script = script;
+    new = (are.each k (get_or actors k d) (slice_get-get_or actors k d less)).1;
+  }
+
+  pub all_acted : (actors : List Actor) (all : List Acted) → AreNew terms room actors → HaveActed terms room (map number_of actors) all → HaveAllActed terms room all
+  all_acted actors all are acted =
       let left = length-map all acted_number in
       let right = length-map actors number_of in
       let same = ap length acted.numbers_are in
-      let count = can.count in record {
+      let count = are.count in record {
         count = omega (arith, left, right, same, count);
         numbers = λ k one at.
             let inside = get_within all k one at in
             let actor = get_here actors k (omega (arith, inside, left, right, same)) in
             get_one (map number_of actors) k one.actor.number actor.0.number (ap (λ z. slice_get z k) (sym acted.numbers_are) ∙ get_map acted_number all k one at) (get_map number_of actors k actor.0 actor.1)
-            ∙ can.numbers k actor.0 actor.1;
+            ∙ (are.each k actor.0 actor.1).0;
         each = acted.each;
       }
 

@@ -1,7 +1,7 @@
--- Starts of static protocols: what a hand has recorded that has seen one turn alone, and hands and
--- passes for starts in a room.
-use Rattle.std.proofs.Common.{◌≡◌, ℕ, suc, ◌+◌, ◌<◌, inl, inr, Bool, true, false, List, [], ◌∷◌, ◌++◌, length, map, reverse, take, set, get_or, cond, Some, refl, sym, ap, subst, ◌∙◌, arith, length-append}
-use Rattle.std.specs.Prelude.{◌==◌, if◌then◌else◌, slice_get, slice_index}
+-- Starts of static protocols: what a hand has seen that has recorded one of which all actors have
+-- heard, and hands and passes for starts in a room.
+use Rattle.std.proofs.Common.{◌≡◌, ℕ, suc, ◌+◌, ◌<◌, inl, inr, Bool, List, [], ◌∷◌, ◌++◌, length, map, reverse, take, set, get_or, Some, refl, sym, ap, subst, ◌∙◌, arith, length-append}
+use Rattle.std.specs.Prelude.{if◌then◌else◌, slice_get}
 use Rattle.std.proofs.lemmas.Bool.{ne_eqb}
 use Rattle.std.proofs.lemmas.List.{length-map, reverse-append, take_more}
 use mathlib.Core.List.{IsPrefix}
@@ -17,8 +17,8 @@ use Rattle.import_lock.specs.Terms.{PhaseTerms}
 use Rattle.jour_rule.specs.Journal.{receipts}
 use Rattle.jour_rule.specs.declared.views.Entry.{Entry}
 use Rattle.jour_rule.specs.declared.views.Terms.{Terms}
-use Rattle.jour_rule.proofs.Fronts.{prefix_whole}
-use Rattle.jour.specs.Seats.{front, head_of, journal, number_of, own}
+use Rattle.jour_rule.specs.Laws.{AreOfMakers}
+use Rattle.jour.specs.Seats.{front, journal, number_of, own}
 use Rattle.phase_legal.specs.Shown.{AreBeside, AreGrown, HandView, PassView}
 use Rattle.phase_legal.specs.Turns.{AreStarts, place_of, turn_words, words_in}
 use Rattle.phase_actors.proofs.Growing.{passes_on}
@@ -27,47 +27,23 @@ use Rattle.room_members.specs.Members.{IsMember, IsRoom, MayRecord, room_seen, t
 use Rattle.room_members.specs.declared.member.Member.{Member}
 use Rattle.room_members.specs.declared.member.Member.TheVariants.{Own, Pipe}
 use Rattle.room_members.specs.declared.room.Room.{Room}
-use Rattle.room_run.specs.Inside.{AreStartSeats, HaveStarted, IsFirst, IsStarter}
+use Rattle.room_run.specs.Inside.{AreOfOthers, AreStartSeats, HaveStarted, IsStarter, StartsOnce}
+use Rattle.room_run.proofs.Turns.{place_zero, turn_more}
 use Rattle.room_ends.specs.Played.{HasStarted, start_act, starts_of}
 
--- ---- a hand that has seen one turn
+-- ---- a start of which all actors have heard
 
-no_more : {A : Type 0} (xs ys : List A) (x : A) → xs ≡ ys ++ x ∷ [] → ys ≡ xs → ⊥
-no_more xs ys x e f =
-    let longer = ap length e in
-    let same = ap length f in
-    let many = length-append ys (x ∷ []) in
-    omega (arith, longer, same, many)
-
-words_are : (mine : Bool) (n : ℕ) (e : Entry) (w : List ℕ) → words_in (cond mine ((n, e.words) ∷ []) []) ≡ w ∷ [] → e.words ≡ w
-words_are true n e w said = let is : e.words ∷ [] ≡ w ∷ [] = said in cc is
-words_are false n e w said = let bad : 0 ≡ 1 = ap length said in absurd (omega (arith, bad))
-
-one_turn : (n k : ℕ) (e : Entry) (before : List Entry) → IsPrefix before (e ∷ []) → words_in (receipts n k (e ∷ [])) ≡ words_in (receipts n k before) ++ turn_words 0 ∷ [] → (before ≡ []) × (place_of e ≡ 0)
-one_turn n k e [] p said = (refl, ap (λ w. slice_index w 1) (words_are (e.maker == k) (suc n) e (turn_words 0) said))
-one_turn n k e (b ∷ bs) p said =
-    let many = length-append (b ∷ bs) p.0 in
-    let whole : length ((b ∷ bs) ++ p.0) ≡ 1 = ap length p.1 in
-    let first : length (b ∷ bs) ≡ suc (length bs) = refl in
-    let one : length (b ∷ bs) ≡ length (e ∷ []) = omega (arith, many, whole, first) in
-    let same : b ∷ bs ≡ e ∷ [] = prefix_whole (b ∷ bs) (e ∷ []) p one in
-    absurd (no_more (words_in (receipts n k (e ∷ []))) (words_in (receipts n k (b ∷ bs))) (turn_words 0) said (ap (λ z. words_in (receipts n k z)) same))
-
-first_turn : (n k : ℕ) (before after : List Entry) → IsPrefix before after → words_in (receipts n k after) ≡ words_in (receipts n k before) ++ turn_words 0 ∷ [] → length after ≡ 1 → (before ≡ []) × AreStarts after
-first_turn n k before [] p said one = absurd (omega (arith, one))
-first_turn n k before (e ∷ []) p said one = let is = one_turn n k e before p said in (is.0, (is.1, tt))
-first_turn n k before (e ∷ f ∷ more) p said one = absurd (omega (arith, one))
-
-pub is_first : (old new : HandView) → journal new ≡ journal old → number_of new.1.role ≡ number_of old.1.role → old.1.seen.terms.start ≡ 0 → IsPrefix (front old.1) (front new.1)
-    → words_in (own new.1) ≡ words_in (own old.1) ++ turn_words 0 ∷ [] → head_of new.1 ≡ 1 → IsFirst old new
-is_first old new here number begins prefix said head =
-    let same : new.1.seen.terms.start ≡ old.1.seen.terms.start = ap (λ (z : TableId × Terms ℕ). z.1.start) here in
-    let at : new.1.seen.terms.start + length (front new.1) ≡ 1 = head in
-    let one : length (front new.1) ≡ 1 = omega (arith, at, same, begins) in
-    let mine : own new.1 ≡ receipts old.1.seen.terms.start (number_of old.1.role) (front new.1) =
-    ap (λ z. receipts z (number_of new.1.role) (front new.1)) same ∙ ap (λ z. receipts old.1.seen.terms.start z (front new.1)) number in
-    let first = first_turn old.1.seen.terms.start (number_of old.1.role) (front old.1) (front new.1) prefix (ap words_in (sym mine) ∙ said) one in
-    record { here = here; number = number; none_before = first.0; starts_alone = first.1; one = one }
+pub starts_once : (starter : ℕ) (old new : HandView) → journal new ≡ journal old → number_of new.1.role ≡ number_of old.1.role → IsPrefix (front old.1) (front new.1) → words_in (own new.1) ≡ words_in (own old.1) ++ turn_words 0 ∷ []
+    → number_of old.1.role ≡ starter → old.1.seen.terms.opening ≡ starter + 1 → AreOfMakers new.1.seen.terms.opening (front new.1) → ((actor : ℕ) → actor < starter → AreOfOthers actor (front new.1)) → StartsOnce old new
+starts_once starter old new here number prefix said mine hands lawful none =
+    let start : new.1.seen.terms.start ≡ old.1.seen.terms.start = ap (λ (z : TableId × Terms ℕ). z.1.start) here in
+    let opening : new.1.seen.terms.opening ≡ starter + 1 = ap (λ (z : TableId × Terms ℕ). z.1.opening) here ∙ hands in
+    let before : receipts old.1.seen.terms.start starter (front old.1) ≡ own old.1 = ap (λ z. receipts old.1.seen.terms.start z (front old.1)) (sym mine) in
+    let after : receipts old.1.seen.terms.start starter (front new.1) ≡ own new.1 =
+    ap (λ z. receipts z starter (front new.1)) (sym start) ∙ ap (λ z. receipts new.1.seen.terms.start z (front new.1)) (sym mine ∙ sym number) in
+    let more = turn_more old.1.seen.terms.start starter (front old.1) (front new.1) (turn_words 0) (subst (λ z. AreOfMakers z (front new.1)) opening lawful, none) prefix
+    (ap words_in after ∙ said ∙ ap (λ z. words_in z ++ turn_words 0 ∷ []) (sym before)) in
+    record { here = here; number = number; turn = more.0; place = place_zero more.0 more.2; more = more.1 }
 
 -- ---- hands for starts, behind one more
 
@@ -77,17 +53,21 @@ one_more number starts = ap (λ (b : Bool). length (if b then turn_of (start_act
 none_more : (number other : ℕ) (starts : List Act) → (other ≡ number → ⊥) → started (start_act number ∷ starts) other ≡ started starts other
 none_more number other starts apart = ap (λ (b : Bool). if b then turn_of (start_act number) ∷ started starts other else started starts other) (ne_eqb number other (λ e. apart (sym e)))
 
-module _ (starter number : ℕ) (starts : List Act) (hands : List HandView) (old new : HandView) (at : slice_get hands number ≡ Some old) (first : IsFirst old new) (were : HaveStarted starter starts hands) where
+starts_behind : (turns : List Entry) (turn : Entry) → AreStarts turns → place_of turn ≡ 0 → AreStarts (turns ++ turn ∷ [])
+starts_behind [] turn are is = (is, tt)
+starts_behind (t ∷ turns) turn are is = (are.0, starts_behind turns turn are.1 is)
+
+module _ (starter number : ℕ) (starts : List Act) (hands : List HandView) (old new : HandView) (at : slice_get hands number ≡ Some old) (once : StartsOnce old new) (were : HaveStarted starter starts hands) where
   started_here : HasStarted starter (start_act number ∷ starts) number new
   started_here =
       let was = were number old at in
-      let one = first.one in
-      let none : length (front old.1) ≡ 0 = ap length first.none_before in
+      let longer : length (front new.1) ≡ length (front old.1 ++ once.turn ∷ []) = ap length once.more in
+      let many = length-append (front old.1) (once.turn ∷ []) in
       let count = was.count in
       let more = one_more number starts in record {
-        number_is = first.number ∙ was.number_is;
-        starts_alone = first.starts_alone;
-        count = omega (arith, one, none, count, more);
+        number_is = once.number ∙ was.number_is;
+        starts_alone = subst AreStarts (sym once.more) (starts_behind (front old.1) once.turn was.starts_alone once.place);
+        count = omega (arith, longer, many, count, more);
       }
 
   started_other : (other : ℕ) (hand : HandView) → (other ≡ number → ⊥) → slice_get (set hands number new) other ≡ Some hand → HasStarted starter (start_act number ∷ starts) other hand
@@ -121,11 +101,11 @@ beside_changed P xs ys k old new at on are = record {
   ];
 }
 
-starter_on : (starter : ℕ) (turns : TableId × Terms ℕ) (old new : HandView) → IsFirst old new → IsStarter starter turns old → IsStarter starter turns new
-starter_on starter turns old new first is = record {
-  journal_is = first.here ∙ is.journal_is;
-  number_is = first.number ∙ is.number_is;
-  begins = ap (λ (z : TableId × Terms ℕ). z.1.start) first.here ∙ is.begins;
+starter_on : (starter : ℕ) (turns : TableId × Terms ℕ) (old new : HandView) → StartsOnce old new → IsStarter starter turns old → IsStarter starter turns new
+starter_on starter turns old new once is = record {
+  journal_is = once.here ∙ is.journal_is;
+  number_is = once.number ∙ is.number_is;
+  hands_are = ap (λ (z : TableId × Terms ℕ). z.1.opening) once.here ∙ is.hands_are;
 }
 
 module _ {J P : Type 0} (terms : P → PhaseTerms) where
@@ -160,12 +140,12 @@ module _ {J P : Type 0} (terms : P → PhaseTerms) where
       pub starter_number : number_of hand.1.role ≡ (terms room.played.value).starter
       starter_number = starter_is.number_is
 
-      pub starter_begins : hand.1.seen.terms.start ≡ 0
-      starter_begins = starter_is.begins
+      pub starter_hands : hand.1.seen.terms.opening ≡ (terms room.played.value).starter + 1
+      starter_hands = starter_is.hands_are
 
       -- once a start was done
-      pub seats_on : (hand_new : HandView) (passes_new : List PassView) → IsFirst hand hand_new → AreGrown passes passes_new → AreStartSeats terms room (set hands number hand_new) passes_new
-      seats_on hand_new passes_new first grown = record {
-        hands_are = beside_changed (IsStarter (terms room.played.value).starter) (room_seen terms room).turns hands number hand hand_new at (λ turns was. starter_on (terms room.played.value).starter turns hand hand_new first was) seats.hands_are;
+      pub seats_on : (hand_new : HandView) (passes_new : List PassView) → StartsOnce hand hand_new → AreGrown passes passes_new → AreStartSeats terms room (set hands number hand_new) passes_new
+      seats_on hand_new passes_new once grown = record {
+        hands_are = beside_changed (IsStarter (terms room.played.value).starter) (room_seen terms room).turns hands number hand hand_new at (λ turns was. starter_on (terms room.played.value).starter turns hand hand_new once was) seats.hands_are;
         passes_are = passes_on room.tables.items passes passes_new grown seats.passes_are;
       }

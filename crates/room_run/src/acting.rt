@@ -1,12 +1,12 @@
 //! Static protocols start, and then all actors do their lines, while workers serve channels and
 //! pipes.
-ghost use Rattle.std.specs.Prelude.{◌≡◌, ◌≢◌, ◌<◌, ℕ, Err, [], length, IfOk};
+ghost use Rattle.std.specs.Prelude.{◌≡◌, ◌<◌, ℕ, [], length, IfOk};
 ghost use Rattle.std.specs.List.{All};
+ghost use Rattle.room_actors.specs.Script.{IsScript};
 ghost use Rattle.room_members.specs.Members.{IsRoom};
-ghost use Rattle.room_run.specs.Inside.{AreStartSeats, CanAct, HaveAllActed, HaveStarted};
+ghost use Rattle.room_run.specs.Inside.{AreNew, AreStartSeats, HaveAllActed, HaveStarted};
 ghost use Rattle.room_ends.specs.Played.{starts_of};
 
-use crate::fault::PlayFault;
 use crate::starting::start_all;
 use attrs::Judge;
 use bits_ip::OutOfMemory;
@@ -52,8 +52,9 @@ fn act_all<
     actors: Vec<Actor>,
 ) -> Result<Vec<Acted>, OutOfMemory>
     requires room { IsRoom P.terms P.exports P.rules room.now }
-    requires can { CanAct P.terms P.exports P.rules (A.setup answers.now) room.now
-        queries.now.items lines.now.items actors.items }
+    requires script { IsScript P.terms room.now queries.now.items lines.now.items }
+    requires setup { A.setup answers.now ≡ (P.terms room.now.played.value).setup }
+    requires actors { AreNew P.terms room.now actors.items }
     ensures { IfOk result (λ all. HaveAllActed P.terms room.now all.items) }
 {
     let help = Help {
@@ -84,18 +85,18 @@ fn act_or_fault<
     queries: &Vec<Query>,
     lines: &Vec<Line>,
     actors: Vec<Actor>,
-) -> Result<Vec<Acted>, PlayFault>
+) -> Result<Vec<Acted>, OpFault>
     requires room { IsRoom P.terms P.exports P.rules room.now }
-    requires can { CanAct P.terms P.exports P.rules (A.setup answers.now) room.now
-        queries.now.items lines.now.items actors.items }
-    ensures acted { IfOk result (λ all. HaveAllActed P.terms room.now all.items) }
-    ensures late { result ≢ Err PlayFault.Late }
+    requires script { IsScript P.terms room.now queries.now.items lines.now.items }
+    requires setup { A.setup answers.now ≡ (P.terms room.now.played.value).setup }
+    requires actors { AreNew P.terms room.now actors.items }
+    ensures { IfOk result (λ all. HaveAllActed P.terms room.now all.items) }
 {
     match act_all(
         alloc, rt, gate, answers, room, channels, queries, lines, actors,
     ) {
         Ok(all) => Ok(all),
-        Err(_) => Err(PlayFault::Op(OpFault::Memory)),
+        Err(_) => Err(OpFault::Memory),
     }
 }
 
@@ -105,12 +106,10 @@ fn find_channels<R: Wait, J: Judge + Drop, P: Phase + Sends>(
     rt: &R,
     room: &Room<J, P>,
     spares: Vec<Vec<TableCursor>>,
-) -> Result<Channels, PlayFault>
-    ensures { result ≢ Err PlayFault.Late }
-{
+) -> Result<Channels, OpFault> {
     match Channels::of(alloc, rt, room, spares) {
         Ok(channels) => Ok(channels),
-        Err(_) => Err(PlayFault::Op(OpFault::Memory)),
+        Err(_) => Err(OpFault::Memory),
     }
 }
 
@@ -119,16 +118,14 @@ fn take_spares<R: Wait>(
     alloc: Global,
     rt: &R,
     channels: Channels,
-) -> Result<Vec<Vec<TableCursor>>, PlayFault>
-    ensures { result ≢ Err PlayFault.Late }
-{
+) -> Result<Vec<Vec<TableCursor>>, OpFault> {
     match channels.into_spares(rt, alloc) {
         Ok(spares) => Ok(spares),
-        Err(_) => Err(PlayFault::Op(OpFault::Memory)),
+        Err(_) => Err(OpFault::Memory),
     }
 }
 
-/// Static protocols start.
+/// Static protocols start, and all actors hear of it.
 fn start_protocols<R: Wait, G: Gate, J: Judge + Drop, P: Phase + Sends>(
     alloc: Global,
     rt: &R,
@@ -138,24 +135,26 @@ fn start_protocols<R: Wait, G: Gate, J: Judge + Drop, P: Phase + Sends>(
     statics: &[u32],
     starters: &mut Vec<Hand>,
     passes: &mut Vec<TablePass>,
-) -> Result<(), PlayFault>
+    actors: &mut Vec<Actor>,
+) -> Result<(), OpFault>
     requires room { IsRoom P.terms P.exports P.rules room.now }
     requires there { All (λ (number : ℕ). number < length room.now.members.items) statics.now }
     requires seats { AreStartSeats P.terms room.now starters.old.items passes.old.items }
     requires none { HaveStarted (P.terms room.now.played.value).starter (starts_of [])
         starters.old.items }
+    requires actors { AreNew P.terms room.now actors.old.items }
     ensures seats { IfOk result (λ _.
         AreStartSeats P.terms room.now starters.new.items passes.new.items) }
+    ensures actors { IfOk result (λ _. AreNew P.terms room.now actors.new.items) }
     ensures started { IfOk result (λ _. HaveStarted (P.terms room.now.played.value).starter
         (starts_of statics.now) starters.new.items) }
-    ensures late { result ≡ Err PlayFault.Late → statics.now ≢ [] }
 {
     let help = Help {
         alloc,
         room,
         channels,
     };
-    start_all(rt, gate, &help, room, statics, starters, passes)
+    start_all(rt, gate, &help, room, statics, starters, passes, actors)
 }
 
 /// Static protocols start, and then all actors do their lines. The spare cursors are lent to those
@@ -179,10 +178,11 @@ pub(crate) fn start_and_act<
     actors: Vec<Actor>,
     starters: &mut Vec<Hand>,
     passes: &mut Vec<TablePass>,
-) -> Result<Through, PlayFault>
+) -> Result<Through, OpFault>
     requires room { IsRoom P.terms P.exports P.rules room.now }
-    requires can { CanAct P.terms P.exports P.rules (A.setup answers.now) room.now
-        queries.now.items lines.now.items actors.items }
+    requires script { IsScript P.terms room.now queries.now.items lines.now.items }
+    requires setup { A.setup answers.now ≡ (P.terms room.now.played.value).setup }
+    requires actors { AreNew P.terms room.now actors.items }
     requires there { All (λ (number : ℕ). number < length room.now.members.items) statics.now }
     requires seats { AreStartSeats P.terms room.now starters.old.items passes.old.items }
     requires none { HaveStarted (P.terms room.now.played.value).starter (starts_of [])
@@ -192,10 +192,20 @@ pub(crate) fn start_and_act<
         AreStartSeats P.terms room.now starters.new.items passes.new.items) }
     ensures started { IfOk result (λ _. HaveStarted (P.terms room.now.played.value).starter
         (starts_of statics.now) starters.new.items) }
-    ensures late { result ≡ Err PlayFault.Late → statics.now ≢ [] }
 {
     let channels = find_channels(alloc, rt, room, spares)?;
-    start_protocols(alloc, rt, gate, room, &channels, statics, starters, passes)?;
+    let mut actors = actors;
+    start_protocols(
+        alloc,
+        rt,
+        gate,
+        room,
+        &channels,
+        statics,
+        starters,
+        passes,
+        &mut actors,
+    )?;
     let all = act_or_fault(
         alloc, rt, gate, answers, room, &channels, queries, lines, actors,
     )?;

@@ -1,5 +1,5 @@
 //! The room of a phase is played.
-ghost use Rattle.std.specs.Prelude.{◌≡◌, ◌≢◌, ◌<◌, ℕ, Err, List, [], length, IfOk};
+ghost use Rattle.std.specs.Prelude.{◌≡◌, ◌<◌, ℕ, List, length, IfOk};
 ghost use Rattle.std.specs.List.{All};
 ghost use Rattle.core_machine.specs.Lines.{Act};
 ghost use Rattle.phase_open.specs.declared.standing.StandingTable.{StandingTable as TableView};
@@ -13,7 +13,6 @@ ghost use Rattle.room_ends.specs.Played.{IsPlayed, starts_of};
 
 use crate::acting::{Through, start_and_act};
 use crate::dealing::{Dealt, deal};
-use crate::fault::PlayFault;
 use attrs::{JEntry, Judge};
 use export_lock::Sends;
 use import_lock::{Hand, OpFault, Phase};
@@ -59,31 +58,6 @@ fn end_room<R: Wait, G: Gate, J: Judge + Drop, P: Phase + Sends>(
     Ok(PlayedRoom { ended, told })
 }
 
-/// The same, with its fault as the phase's.
-fn end_played<R: Wait, G: Gate, J: Judge + Drop, P: Phase + Sends>(
-    alloc: Global,
-    rt: &R,
-    gate: &G,
-    room: Room<J, P>,
-    through: Through,
-    starters: Vec<Hand>,
-    passes: Vec<TablePass>,
-) -> Result<PlayedRoom<J>, PlayFault>
-    requires room { IsRoom P.terms P.exports P.rules room }
-    requires ports { HasPorts P.terms P.exports P.rules room }
-    requires acted { HaveAllActed P.terms room through.all.items }
-    requires seats { AreStartSeats P.terms room starters.items passes.items }
-    ensures played { IfOk result (λ played. (starts : List Act)
-        → HaveStarted (P.terms room.played.value).starter starts starters.items
-        → IsPlayed J.verdict P.terms P.exports P.rules room starts played) }
-    ensures late { result ≢ Err PlayFault.Late }
-{
-    match end_room(alloc, rt, gate, room, through, starters, passes) {
-        Ok(played) => Ok(played),
-        Err(fault) => Err(PlayFault::Op(fault)),
-    }
-}
-
 /// Plays a phase in the room that was opened for it: protocols of these numbers start, a thread for
 /// each actor does its lines while four workers serve channels and pipes, and the phase ends. Who
 /// answers queries has what is played. The entries of each table before the phase come back.
@@ -104,7 +78,7 @@ pub fn play_room<
     queries: &Vec<Query>,
     lines: &Vec<Line>,
     statics: &[u32],
-) -> Result<(PlayedRoom<J>, Vec<Vec<JEntry>>), PlayFault>
+) -> Result<(PlayedRoom<J>, Vec<Vec<JEntry>>), OpFault>
     requires opening { (played : P) × (tables : List TableView)
         × (members : List (HeldView J))
         × IsOpening P.terms P.exports P.rules played tables members opening }
@@ -115,7 +89,6 @@ pub fn play_room<
     ensures played { IfOk result (λ made. IsPlayed J.verdict P.terms P.exports P.rules
         opening.room (starts_of statics.now) made.0) }
     ensures before { IfOk result (λ made. made.1 ≡ opening.before) }
-    ensures late { result ≡ Err PlayFault.Late → statics.now ≢ [] }
 {
     let Opening {
         room,
@@ -139,6 +112,6 @@ pub fn play_room<
         &mut starters,
         &mut passes,
     )?;
-    let played = end_played(alloc, rt, gate, room, through, starters, passes)?;
+    let played = end_room(alloc, rt, gate, room, through, starters, passes)?;
     Ok((played, before))
 }

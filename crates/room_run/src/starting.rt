@@ -1,21 +1,22 @@
 //! Static protocols start, before any actor acts.
-ghost use Rattle.std.specs.Prelude.{◌≡◌, ◌≢◌, ◌++◌, ◌∷◌, ◌<◌, ℕ, Err, List, [], Some, length, slice_get, IfOk};
+ghost use Rattle.std.specs.Prelude.{◌≡◌, ◌+◌, ◌++◌, ◌∷◌, ◌<◌, ℕ, List, [], Some, length, slice_get, IfOk};
 ghost use Rattle.std.specs.List.{All};
 ghost use mathlib.Core.List.{IsPrefix};
-ghost use Rattle.jour.specs.Seats.{front, head_of, journal, number_of, own};
+ghost use Rattle.jour.specs.Seats.{front, journal, number_of, own};
 ghost use Rattle.core_machine.specs.Lines.{Act};
 ghost use Rattle.phase_legal.specs.Shown.{AreGrown};
 ghost use Rattle.phase_legal.specs.Turns.{turn_words, words_in};
 ghost use Rattle.room_members.specs.Members.{ArePasses, IsRoom, room_seen};
-ghost use Rattle.room_run.specs.Inside.{AreStartSeats, HaveStarted, IsFirst};
+ghost use Rattle.room_run.specs.Inside.{AreNew, AreStartSeats, HaveStarted, StartsOnce};
 ghost use Rattle.room_ends.specs.Played.{start_act, starts_of};
 
-use crate::fault::PlayFault;
+use crate::telling::tell_actors;
 use attrs::Judge;
 use export_lock::Sends;
 use import_core::Op;
-use import_lock::{Hand, Helper, Phase};
+use import_lock::{Hand, Helper, OpFault, Phase};
 use outside_io::Gate;
+use phase_actors::Actor;
 use room_members::Room;
 use std::sync::Wait;
 use table_shared::TablePass;
@@ -29,7 +30,7 @@ fn operate_start<R: Wait, G: Gate, H: Helper, J: Judge + Drop, P: Phase + Sends>
     number: usize,
     hand: &mut Hand,
     passes: &mut Vec<TablePass>,
-) -> Result<(), PlayFault>
+) -> Result<(), OpFault>
     requires room { IsRoom P.terms P.exports P.rules room.now }
     requires there { number < length room.now.members.items }
     requires hand { slice_get (room_seen P.terms room.now).turns number
@@ -43,24 +44,11 @@ fn operate_start<R: Wait, G: Gate, H: Helper, J: Judge + Drop, P: Phase + Sends>
     ensures said { IfOk result (λ _. words_in (own hand.new.1)
         ≡ words_in (own hand.old.1) ++ turn_words 0 ∷ []) }
 {
-    match room.operate(rt, gate, helper, number, hand, passes, 0, &Op::Start) {
-        Ok(()) => Ok(()),
-        Err(fault) => Err(PlayFault::Op(fault)),
-    }
+    room.operate(rt, gate, helper, number, hand, passes, 0, &Op::Start)
 }
 
-/// That a hand has seen one turn alone.
-fn check_first(hand: &Hand) -> Result<(), PlayFault>
-    ensures { IfOk result (λ _. head_of hand.now.1 ≡ 1) }
-{
-    if hand.seen() == 1 {
-        return Ok(());
-    }
-    Err(PlayFault::Late)
-}
-
-/// Does the start of a protocol with its hand for that, as the protocol's first turn. The passes
-/// are one of each table.
+/// Does the start of a protocol with its hand for that, of which all actors hear, so that no other
+/// turn came before. The passes are one of each table.
 fn start_with<R: Wait, G: Gate, H: Helper, J: Judge + Drop, P: Phase + Sends>(
     rt: &R,
     gate: &G,
@@ -69,19 +57,25 @@ fn start_with<R: Wait, G: Gate, H: Helper, J: Judge + Drop, P: Phase + Sends>(
     number: usize,
     hand: &mut Hand,
     passes: &mut Vec<TablePass>,
-) -> Result<(), PlayFault>
+    actors: &mut Vec<Actor>,
+) -> Result<(), OpFault>
     requires room { IsRoom P.terms P.exports P.rules room.now }
     requires there { number < length room.now.members.items }
     requires hand { slice_get (room_seen P.terms room.now).turns number
         ≡ Some (journal hand.old) }
     requires number { number_of hand.old.1.role ≡ (P.terms room.now.played.value).starter }
-    requires begins { hand.old.1.seen.terms.start ≡ 0 }
+    requires hands { hand.old.1.seen.terms.opening
+        ≡ (P.terms room.now.played.value).starter + 1 }
     requires passes { ArePasses room.now.tables.items passes.old.items }
-    ensures first { IfOk result (λ _. IsFirst hand.old hand.new) }
+    requires actors { AreNew P.terms room.now actors.old.items }
+    ensures starts { IfOk result (λ _. StartsOnce hand.old hand.new) }
     ensures passes { AreGrown passes.old.items passes.new.items }
+    ensures actors { IfOk result (λ _. AreNew P.terms room.now actors.new.items) }
 {
     operate_start(rt, gate, helper, room, number, hand, passes)?;
-    check_first(hand)?;
+    tell_actors(rt, room, number, hand, actors)?;
+    // What it has seen is of hands up to its own number.
+    let _seen = hand.seen();
     Ok(())
 }
 
@@ -94,19 +88,31 @@ fn start_one<R: Wait, G: Gate, H: Helper, J: Judge + Drop, P: Phase + Sends>(
     number: u32,
     starters: &mut Vec<Hand>,
     passes: &mut Vec<TablePass>,
-) -> Result<(), PlayFault>
+    actors: &mut Vec<Actor>,
+) -> Result<(), OpFault>
     requires room { IsRoom P.terms P.exports P.rules room.now }
     requires there { number < length room.now.members.items }
     requires seats { AreStartSeats P.terms room.now starters.old.items passes.old.items }
+    requires actors { AreNew P.terms room.now actors.old.items }
     ensures seats { IfOk result (λ _.
         AreStartSeats P.terms room.now starters.new.items passes.new.items) }
+    ensures actors { IfOk result (λ _. AreNew P.terms room.now actors.new.items) }
     ensures started { IfOk result (λ _. (starts : List Act)
         → HaveStarted (P.terms room.now.played.value).starter starts starters.old.items
         → HaveStarted (P.terms room.now.played.value).starter (start_act number ∷ starts)
         starters.new.items) }
 {
     let hand = &mut starters[number as usize];
-    start_with(rt, gate, helper, room, number as usize, hand, passes)?;
+    start_with(
+        rt,
+        gate,
+        helper,
+        room,
+        number as usize,
+        hand,
+        passes,
+        actors,
+    )?;
     Ok(())
 }
 
@@ -119,20 +125,31 @@ pub(crate) fn start_all<R: Wait, G: Gate, H: Helper, J: Judge + Drop, P: Phase +
     numbers: &[u32],
     starters: &mut Vec<Hand>,
     passes: &mut Vec<TablePass>,
-) -> Result<(), PlayFault>
+    actors: &mut Vec<Actor>,
+) -> Result<(), OpFault>
     requires room { IsRoom P.terms P.exports P.rules room.now }
     requires there { All (λ (number : ℕ). number < length room.now.members.items) numbers.now }
     requires seats { AreStartSeats P.terms room.now starters.old.items passes.old.items }
     requires none { HaveStarted (P.terms room.now.played.value).starter (starts_of [])
         starters.old.items }
+    requires actors { AreNew P.terms room.now actors.old.items }
     ensures seats { IfOk result (λ _.
         AreStartSeats P.terms room.now starters.new.items passes.new.items) }
+    ensures actors { IfOk result (λ _. AreNew P.terms room.now actors.new.items) }
     ensures started { IfOk result (λ _. HaveStarted (P.terms room.now.played.value).starter
         (starts_of numbers.now) starters.new.items) }
-    ensures late { result ≡ Err PlayFault.Late → numbers.now ≢ [] }
 {
     for index in 0..numbers.len() {
-        start_one(rt, gate, helper, room, numbers[index], starters, passes)?;
+        start_one(
+            rt,
+            gate,
+            helper,
+            room,
+            numbers[index],
+            starters,
+            passes,
+            actors,
+        )?;
     }
     Ok(())
 }

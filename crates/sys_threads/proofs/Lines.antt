@@ -86,11 +86,3 @@ pub few_starts : (protocols : ℕ) (numbers : List ℕ) → All (λ (number : �
 few_starts protocols numbers all n a at =
     let m = mapped_at start_act (reverse numbers) n a at in
     subst (λ (b : Act). b.protocol < protocols) m.2 (all_at (λ (number : ℕ). number < protocols) (reverse numbers) n m.0 (all_back (λ (number : ℕ). number < protocols) numbers all) m.1)
-
-pub none_to_start : (numbers : List ℕ) → starts_of numbers ≡ [] → numbers ≡ []
-none_to_start [] none = refl
-none_to_start (number ∷ more) none =
-    let empty : length (starts_of (number ∷ more)) ≡ 0 = ap length none in
-    let mapped : length (starts_of (number ∷ more)) ≡ length (reverse (number ∷ more)) = length-map (reverse (number ∷ more)) start_act in
-    let back : length (reverse (number ∷ more)) ≡ suc (length more) = length-reverse (number ∷ more) in
-    absurd (let bad : 1 ≤ 0 = omega (arith, empty, mapped, back) in omega (arith, bad))

@@ -64,13 +64,6 @@ legal_more setup scripts printed lines p first are same is =
     legal_from (rules_of setup) (starts setup) nothing scripts printed lines p are
     (subst (λ (acts : List Act). IsLegal (rules_of setup) (started acts) (joined_all nothing printed) lines p) (same ∙ starts_are setup printed) is)
 
--- nothing was run where a protocol is still to start
-pub not_late : (setup : Setup) (scripts : List (List Line)) (printed : List Printed) (first : List Act) → AreLegal (rules_of setup) (starts setup) nothing scripts printed
-    → first ≡ starts_in setup (length printed) → (first ≡ [] → ⊥) → scripts ≡ []
-not_late setup [] printed first are same some = refl
-not_late setup (l ∷ scripts) [] first bad same some = absurd bad
-not_late setup (l ∷ scripts) (p ∷ printed) first are same some = absurd (some same)
-
 reports_from : (setup : Setup) (actors : List (List ℕ)) (past : Joined) (n : ℕ) (printed : List Printed) (reports : List PhaseReport) (p : Printed) (r : PhaseReport)
     → AreReports setup actors n past printed reports → IsReport setup actors (n + length printed) (joined_all past printed) p r → AreReports setup actors n past (printed ++ p ∷ []) (reports ++ r ∷ [])
 reports_from setup actors past n [] [] p r are is = (subst (λ m. IsReport setup actors m past p r) (let z : n + 0 ≡ n = omega arith in z) is, tt)

@@ -1,5 +1,5 @@
--- What rests between two phases can be played on, and what a fault says.
-use Rattle.std.proofs.Common.{◌≡◌, ℕ, ◌<◌, List, length, Result, Ok, Err, IsErrAnd, refl, sym, ap, subst, ◌∙◌}
+-- What rests between two phases can be played on.
+use Rattle.std.proofs.Common.{◌≡◌, ℕ, ◌<◌, List, length, sym, ap, subst, ◌∙◌}
 use Rattle.std.specs.List.{All}
 use Rattle.attrs.specs.declared.judge.Verdict.{Verdict}
 use Rattle.attrs.specs.declared.route.Route.{Route}
@@ -8,28 +8,12 @@ use Rattle.core_machine.specs.Legal.{Printed}
 use Rattle.core_setup.specs.Channels.{channels}
 use Rattle.core_setup.specs.Setup.{Setup}
 use Rattle.script_lines.specs.declared.script.Line.{Line}
-use Rattle.import_lock.specs.declared.state.OpFault.TheVariants as ops
 use Rattle.room_first.specs.Sent.{lent_by, sent_by}
 use Rattle.room_open.specs.Standing.{Stands}
-use Rattle.room_run.specs.declared.fault.PlayFault.{PlayFault}
-use Rattle.room_run.specs.declared.fault.PlayFault.TheVariants as plays
-use Rattle.sys_threads.specs.Faults.{fault_of}
 use Rattle.sys_threads.specs.Playing.{sent_in, setup_lent, terms_of}
 use Rattle.sys_threads.specs.Running.{CanPlay, IsFew, IsNext, Rests}
-use Rattle.sys_threads.specs.declared.fault.RunFault.{RunFault}
-use Rattle.sys_threads.specs.declared.fault.RunFault.TheVariants as runs
 use Rattle.sys_threads.specs.declared.playing.Playing.{Playing}
 use Rattle.sys_threads.specs.declared.runner.Runner.{Runner}
-
-pub fault_is : {T : Type 0} (result : Result T RunFault) (made fault : RunFault) → IsErrAnd result (λ e. e ≡ made) → result ≡ Err fault → made ≡ fault
-fault_is (Ok x) made fault is same = absurd is
-fault_is (Err e) made fault is same = sym is ∙ cc
-
--- no other fault of a room is a start that came late
-pub late_only : (play : PlayFault) → fault_of play ≡ runs.Late → play ≡ plays.Late
-late_only plays.Late e = refl
-late_only (plays.Op (ops.Ended head)) e = cc
-late_only (plays.Op ops.Memory) e = cc
 
 module _ {J : Type 0} (verdict : J → Net → Route → Verdict) (runner : Runner J) (setup : Setup) (actors : ℕ) (printed : List Printed) (rests : Rests verdict setup actors printed runner) where
   pub stands_now : (played : Playing J) → IsNext verdict runner played → Stands (lent_by verdict) (terms_of verdict played) (sent_in verdict played) runner.standing

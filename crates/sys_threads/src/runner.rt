@@ -1,5 +1,5 @@
 //! The runner.
-ghost use Rattle.std.specs.Prelude.{◌≡◌, ◌≢◌, ◌<◌, ◌++◌, ◌∷◌, ℕ, [], Err, List, IfOk, length};
+ghost use Rattle.std.specs.Prelude.{◌≡◌, ◌<◌, ◌++◌, ◌∷◌, ℕ, [], List, IfOk, length};
 ghost use Rattle.std.specs.List.{All};
 ghost use Rattle.core_machine.specs.Lines.{Line as MachineLine};
 ghost use Rattle.core_setup.specs.Channels.{channels as channels_of};
@@ -18,7 +18,6 @@ ghost use Rattle.sys_run.specs.Scripts.{phase_of};
 ghost use Rattle.sys_threads.specs.Inside.{IsOneMore};
 ghost use Rattle.sys_threads.specs.Playing.{rules_in, sent_in, setup_lent, terms_of};
 ghost use Rattle.sys_threads.specs.Running.{CanPlay, HasRun, IsFew};
-ghost use Rattle.sys_threads.specs.declared.fault.RunFault.TheVariants.{Late};
 ghost use Rattle.sys_threads.specs.declared.playing.Playing.{Playing as PlayingView};
 
 use crate::fault::RunFault;
@@ -116,14 +115,11 @@ impl<'p, J: Judge + Drop + Sync> Runner<'p, J> {
         requires { (setup : Setup) × (scripts : List (List MachineLine))
             × (reports : List Report) × HasRun J.verdict setup actors.now scripts reports self
             × CanPlay setup (length actors.now) lines.now.items }
-        ensures ran { IfOk result (λ both. (setup : Setup) (scripts : List (List MachineLine))
+        ensures { IfOk result (λ both. (setup : Setup) (scripts : List (List MachineLine))
             (reports : List Report) → HasRun J.verdict setup actors.now scripts reports self.entry
             → HasRun J.verdict setup actors.now
             (scripts ++ phase_of setup.queries lines.now.items ∷ []) (reports ++ both.0 ∷ [])
             both.1) }
-        ensures late { result ≡ Err RunFault.Late → (setup : Setup)
-            (scripts : List (List MachineLine)) (reports : List Report)
-            → HasRun J.verdict setup actors.now scripts reports self.entry → scripts ≡ [] }
     {
         played_phases_are_legal::<Lent<'p, J>, Playing<'p, J>>();
         members_are_of_what_stood::<Lent<'p, J>, Playing<'p, J>>();
@@ -209,10 +205,9 @@ fn play_opened<
     requires setup { A.setup answers.now ≡ (P.terms opening.room.played.value).setup }
     requires statics { All (λ (number : ℕ). number < length opening.room.members.items)
         statics.now }
-    ensures played { IfOk result (λ made. IsPlayed J.verdict P.terms P.exports P.rules
+    ensures { IfOk result (λ made. IsPlayed J.verdict P.terms P.exports P.rules
         opening.room (starts_of statics.now) made.0
         × (made.1 ≡ opening.before)) }
-    ensures late { result ≡ Err RunFault.Late → statics.now ≢ [] }
 {
     let made = play_room(alloc, rt, gate, answers, opening, queries, lines, statics)?;
     Ok(made)
@@ -238,13 +233,12 @@ fn play_phase<'p, R: Threads + Wait + Sync, G: Gate + Sync, J: Judge + Drop + Sy
     requires channels { channels ≡ length (channels_of (setup_lent J.verdict playing.now.parts)) }
     requires statics { All (λ (number : ℕ).
         number < length (setup_lent J.verdict playing.now.parts).protocols) statics.now }
-    ensures played { IfOk result (λ made. (opening : OpeningView (LentView J) (PlayingView J))
+    ensures { IfOk result (λ made. (opening : OpeningView (LentView J) (PlayingView J))
         × IsOpening (terms_of J.verdict) (sent_in J.verdict) (rules_in J.verdict) playing.now
         standing.entry.tables.items standing.entry.members.items opening
         × IsPlayed (lent_by J.verdict) (terms_of J.verdict) (sent_in J.verdict)
         (rules_in J.verdict) opening.room (starts_of statics.now) made.0
         × (made.1 ≡ opening.before)) }
-    ensures late { result ≡ Err RunFault.Late → statics.now ≢ [] }
 {
     lines_can_be_done::<Lent<'p, J>, Playing<'p, J>>();
     let parts = playing.parts;

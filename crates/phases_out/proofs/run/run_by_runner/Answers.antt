@@ -1,6 +1,5 @@
-use Rattle.std.proofs.Common.{map, subst}
+use Rattle.std.proofs.Common.{map}
 use Rattle.core_setup.specs.Plays.{IsLegalPlay}
-use Rattle.phases_out.specs.Inside.{StopsSo}
 use Rattle.phases_out.specs.Written.{AreRun}
 use Rattle.phases_out.proofs.Writing.{ends_whole}
 use Rattle.phases_out.proofs.run.run_by_runner.Goals as goal
@@ -14,8 +13,5 @@ returns-in-Ok g c = λ setup start.
 pub run_each-requires-clause-start : goal.run_each-requires-clause-start
 run_each-requires-clause-start g c κs within = c.requires.start
 
-pub returns-in-Err-Late : goal.returns-in-Err-Late
-returns-in-Err-Late g c = λ setup start. subst (StopsSo _ _) c.in-Err-Late.field-0-is c.in-Err-Late.ensures.stopped
-
-pub returns-in-Err-With : goal.returns-in-Err-With
-returns-in-Err-With g c = λ setup start. (subst (StopsSo _ _) c.in-Err-With.field-0-is c.in-Err-With.ensures.stopped) setup start
+pub returns-in-Err : goal.returns-in-Err
+returns-in-Err g c = λ setup start. c.in-Err.ensures.stopped setup start

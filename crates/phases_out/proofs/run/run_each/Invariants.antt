@@ -9,6 +9,5 @@ invariant-loop-lines g l = record {
   so_far : (setup : Setup) → HasRun g.J.Judge.verdict setup l.actors [] [] l.fn.runner
       → HasWritten (RunBy g.J.Judge.verdict setup l.actors l.runner) setup (map (λ phase. phase.items) (take l.lines-index l.phases)) l.fn.form
       (g.K.Sink.contents l.fn.out) (g.K.Sink.contents l.out);
-  first : l.lines-index ≡ 0 → l.out ≡ l.fn.out;
   later : g.K.Sink.faults l.fn.out ≤ g.K.Sink.faults l.out;
 }

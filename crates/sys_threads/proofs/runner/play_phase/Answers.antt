@@ -44,8 +44,8 @@ pub play_opened-requires-clause-statics : goal.play_opened-requires-clause-stati
 play_opened-requires-clause-statics g c κs within =
     subst (λ n. All (λ (number : ℕ). number < n) c.args.statics.now) (sym (c.in_ok-opening.ensures.members_count ∙ c.requires.stands.count)) c.requires.statics
 
-pub returns-clause-played : goal.returns-clause-played
-returns-clause-played g c = IfOk-weaker c.play_opened.result _ _ (λ made is. (c.in_ok-opening.opening, c.in_ok-opening.ensures, is.0, is.1)) c.play_opened.ensures.played
+pub returns : goal.returns
+returns g c = IfOk-weaker c.play_opened.result _ _ (λ made is. (c.in_ok-opening.opening, c.in_ok-opening.ensures, is.0, is.1)) c.play_opened.ensures
 
 pub play_opened-requires-send-P : goal.play_opened-requires-send-P
 play_opened-requires-send-P g c κs within = param_send 4 _ (arg_send _ no _ (playing_send _ (param 2 g.row.J) g.J.Judge c.type_bounds.sync-J))

@@ -1,4 +1,4 @@
-use Rattle.std.proofs.Common.{◌≡◌, ◌+◌, List, Vec, Global, Err, length, map, refl, sym, ap, subst, ◌∙◌, arith}
+use Rattle.std.proofs.Common.{◌≡◌, ◌+◌, List, Vec, Global, length, map, refl, sym, ap, subst, ◌∙◌, arith}
 use Rattle.core_setup.specs.Reports.{IsReport}
 use Rattle.script_lines.specs.declared.script.Line.{Line}
 use Rattle.sys_run.specs.Scripts.{line_of}
@@ -10,14 +10,11 @@ use Rattle.room_report.specs.Described.{IsDescribed}
 use Rattle.room_ends.specs.Played.{IsPlayed, starts_of}
 use Rattle.room_ends.specs.Prints.{Prints}
 use Rattle.sys_threads.specs.Playing.{rules_in, sent_in, terms_of}
-use Rattle.sys_threads.specs.declared.fault.RunFault.{RunFault}
 use Rattle.sys_threads.specs.declared.playing.Earlier.{Earlier}
 use Rattle.sys_threads.specs.declared.playing.Playing.{Playing}
 use Rattle.sys_threads.specs.declared.runner.Runner.{Runner}
-use Rattle.sys_threads.proofs.Lines.{none_to_start}
-use Rattle.sys_threads.proofs.More.{not_late}
 use Rattle.sys_threads.proofs.Ran.{AreLaws, IsBehind, IsPlaying, run_more}
-use Rattle.sys_threads.proofs.Ready.{all_can_now, can_now, channels_now, fault_is, few_now, stands_now, statics_now}
+use Rattle.sys_threads.proofs.Ready.{all_can_now, can_now, channels_now, few_now, stands_now, statics_now}
 use Rattle.sys_threads.proofs.runner.Runner.play.Goals as goal
 
 pub play_phase-requires-clause-stands : goal.play_phase-requires-clause-stands
@@ -43,19 +40,13 @@ play_phase-requires-clause-statics g c κs within =
 pub play_phase-requires-clause-lines : goal.play_phase-requires-clause-lines
 play_phase-requires-clause-lines g c κs within = ap (λ (lines : Vec Line Global). lines.items) c.of.ensures
 
-pub returns-in_err-made-clause-late : goal.returns-in_err-made-clause-late
-returns-in_err-made-clause-late g c = λ is setup scripts reports run.
-    let failed = fault_is c.from_residual-in_err-made.result c.in_err-made.field-0.0 _ c.from_residual-in_err-made.ensures.1 is in
-    not_late setup scripts run.printed (starts_of c.args.self.statics.items) run.legal run.rests.starts_are
-    (λ none. c.in_err-made.ensures.late (ap (λ (fault : RunFault). Err fault) failed) (c.deref-2.ensures.value ∙ none_to_start c.args.self.statics.items none))
-
-pub returns-clause-ran : goal.returns-clause-ran
-returns-clause-ran g c =
+pub returns : goal.returns
+returns g c =
     let verdict = g.J.Judge.verdict in
     let old = c.args.self in
     let r = c.requires in
     let made = c.in_ok-made.made in
-    let is = c.in_ok-made.ensures.played in
+    let is = c.in_ok-made.ensures in
     let pushed = c.in_ok-earlier.ensures in
     let lengths = c.in_ok-lengths.lengths in
     let laws : AreLaws verdict = record { legal = c.played_phases_are_legal.ensures; over = c.members_are_of_what_stood.ensures } in
