@@ -5,6 +5,7 @@ ghost use Rattle.jour.specs.Seats.{front, journal};
 ghost use Rattle.export_lock.specs.Kept.{GoesOn, IsHeld, LeavesFlush};
 
 use attrs::Judge;
+use entry_memo::Memo;
 use export_lock::{ExportState, Sends};
 use jour_rule::buf::Buf;
 use phase_room::ExportLock;
@@ -51,7 +52,7 @@ pub fn pass_all(cursors: &mut Vec<TableCursor>) {
 /// A channel, or a pipe's direction, that is up takes the next entry, also while it withdraws what
 /// stands. The cursor of one that is down moves past the entries that there are. Where memory is
 /// refused, the entry is left for the next help.
-pub fn read_on<J: Judge>(alloc: Global, state: &mut ExportState<J>)
+pub fn read_on<J: Judge>(alloc: Global, memo: &Memo, state: &mut ExportState<J>)
     requires held { IsHeld J.verdict state.old }
     ensures goes { GoesOn J.verdict state.old state.new }
     ensures flush { LeavesFlush state.old state.new }
@@ -59,7 +60,7 @@ pub fn read_on<J: Judge>(alloc: Global, state: &mut ExportState<J>)
     ensures marks { state.new.marks ≡ state.old.marks }
 {
     if state.cursor.is_started() {
-        let _ = state.take_turn(alloc);
+        let _ = state.take_turn(alloc, memo);
     } else {
         pass_by(&mut state.cursor);
     }
@@ -70,9 +71,10 @@ pub fn read_on<J: Judge>(alloc: Global, state: &mut ExportState<J>)
 pub fn help_channel<R: Wait, J: Judge + Drop, P: Sends>(
     alloc: Global,
     rt: &R,
+    memo: &Memo,
     channel: &ExportLock<J, P>,
 ) {
     let (held, mut state) = channel.lock(rt);
-    read_on(alloc, &mut state);
+    read_on(alloc, memo, &mut state);
     channel.unlock(held, state);
 }

@@ -16,5 +16,5 @@ mod settling;
 mod turns;
 
 pub use helping::{help_channel, pass_all, pass_by, read_on};
-pub use serving::serve_channel;
+pub use serving::{read_channel, serve_channel};
 pub use settling::settle;

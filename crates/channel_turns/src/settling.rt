@@ -8,6 +8,7 @@ ghost use Rattle.export_lock.specs.Kept.{GoesOn, IsOfKind};
 use crate::turns::{Did, turn_channel};
 use attrs::Judge;
 use bits_ip::OutOfMemory;
+use entry_memo::Memo;
 use export_lock::ExportState;
 use std::alloc::Global;
 use std::sync::Wait;
@@ -32,8 +33,9 @@ pub fn settle<R: Wait, J: Judge>(
     ensures fed { IfOk result (λ _. is_feeding state.new ≡ false) }
     ensures marks { state.new.marks ≡ state.old.marks }
 {
+    let memo = Memo::none(alloc);
     for _ in rt.forever() {
-        if let Did::Nothing = turn_channel(alloc, rt, table, state)? {
+        if let Did::Nothing = turn_channel(alloc, rt, &memo, table, state)? {
             return Ok(state.cursor.known());
         }
     }

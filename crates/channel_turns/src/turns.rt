@@ -8,6 +8,7 @@ ghost use Rattle.channel_turns.specs.Turns.{Does};
 
 use attrs::Judge;
 use bits_ip::OutOfMemory;
+use entry_memo::Memo;
 use export_core::{FeedState, LogOnly, Pushed};
 use export_lock::ExportState;
 use std::alloc::Global;
@@ -67,6 +68,7 @@ fn push<J: Judge>(state: &mut ExportState<J>) -> Result<Did, OutOfMemory>
 /// next.
 pub(crate) fn read_or_push<J: Judge>(
     alloc: Global,
+    memo: &Memo,
     state: &mut ExportState<J>,
 ) -> Result<Did, OutOfMemory>
     requires kind { IsOfKind J.verdict false state.old }
@@ -78,7 +80,7 @@ pub(crate) fn read_or_push<J: Judge>(
     ensures reads { ReadsOn state.old.cursor state.new.cursor }
     ensures marks { state.new.marks ≡ state.old.marks }
 {
-    if state.take_turn(alloc)? {
+    if state.take_turn(alloc, memo)? {
         return Ok(Did::Took);
     }
     push(state)
@@ -91,6 +93,7 @@ pub(crate) fn read_or_push<J: Judge>(
 pub(crate) fn turn_channel<R: Wait, J: Judge>(
     alloc: Global,
     rt: &R,
+    memo: &Memo,
     table: &Table,
     state: &mut ExportState<J>,
 ) -> Result<Did, OutOfMemory>
@@ -101,7 +104,7 @@ pub(crate) fn turn_channel<R: Wait, J: Judge>(
     ensures marks { state.new.marks ≡ state.old.marks }
 {
     if !is_feeding(state) {
-        return read_or_push(alloc, state);
+        return read_or_push(alloc, memo, state);
     }
     state.feed_turn(rt, table, 256)?;
     Ok(Did::Fed)

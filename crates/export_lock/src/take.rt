@@ -7,17 +7,18 @@ ghost use Rattle.export_lock.specs.Kept.{GoesOn, IsHeld, LeavesFlush, ReadsOn};
 use crate::state::ExportState;
 use attrs::Judge;
 use bits_ip::OutOfMemory;
+use entry_memo::Memo;
 use export_core::laws::entries_are_told;
 use jour_rule::buf::Buf;
 use rec_words::laws::words_spell_one_entry;
 use std::alloc::Global;
-use table_shared::read_record;
 
 impl<J: Judge> ExportState<J> {
     /// Takes the next entry of the table's journal, and tells whether there was one. A channel that
     /// is down takes none, and one that is up where it stands at the head that it loaded. Where
-    /// memory is refused, the entry is left for the next call.
-    pub fn take_turn(&mut self, alloc: Global) -> Result<bool, OutOfMemory>
+    /// memory is refused, the entry is left for the next call. What its words say comes from the memo
+    /// where that remembers them.
+    pub fn take_turn(&mut self, alloc: Global, memo: &Memo) -> Result<bool, OutOfMemory>
         requires held { IsHeld J.verdict self.old }
         ensures goes { GoesOn J.verdict self.old self.new }
         ensures flush { LeavesFlush self.old self.new }
@@ -40,7 +41,7 @@ impl<J: Judge> ExportState<J> {
         let Some(at) = self.cursor.next(&mut buf) else {
             return Ok(false);
         };
-        let entry = read_record(alloc, &self.cursor, &buf)?;
+        let entry = memo.read(alloc, &self.cursor, &buf, at)?;
         self.exporter.take(at, &entry)?;
         self.cursor.advance();
         Ok(true)

@@ -5,6 +5,7 @@ ghost use Rattle.pipe_turns.specs.Turns.{CanTurn, KeepsLane};
 
 use crate::turns::{LaneDid, turn_lane};
 use attrs::{Judge, Src};
+use entry_memo::Memo;
 use export_lock::{PipeLane, Sends};
 use import_lock::{Helper, OpFault};
 use outside_io::Gate;
@@ -46,6 +47,7 @@ fn some_turns<R: Wait, G: Gate, J: Judge>(
     alloc: Global,
     rt: &R,
     gate: &G,
+    memo: &Memo,
     reads: &Table,
     writes: &Table,
     sources: &[Src],
@@ -55,7 +57,7 @@ fn some_turns<R: Wait, G: Gate, J: Judge>(
     ensures keeps { KeepsLane J.verdict sources.now lane result.0 }
 {
     for turn in 0..64 {
-        let (next, did) = turn_lane(alloc, rt, gate, reads, writes, sources, lane);
+        let (next, did) = turn_lane(alloc, rt, gate, memo, reads, writes, sources, lane);
         lane = next;
         match did {
             Ok(did) => {
@@ -75,6 +77,7 @@ fn some_turns<R: Wait, G: Gate, J: Judge>(
 pub fn serve_lane<R: Wait, J: Judge + Drop, P: Sends, G: Gate, H: Helper>(
     alloc: Global,
     rt: &R,
+    memo: &Memo,
     door: &LaneDoor<'_, J, P, G, H>,
 ) -> Result<Served, OpFault>
     requires door { IsDoor (lane_terms_of P.exports P.rules door.now.lock.now.1)
@@ -85,6 +88,7 @@ pub fn serve_lane<R: Wait, J: Judge + Drop, P: Sends, G: Gate, H: Helper>(
         alloc,
         rt,
         door.gate,
+        memo,
         door.reads,
         door.writes,
         door.sources,
@@ -99,12 +103,13 @@ pub fn serve_lane<R: Wait, J: Judge + Drop, P: Sends, G: Gate, H: Helper>(
 pub fn serve_or_help<R: Wait, J: Judge + Drop, P: Sends, G: Gate, H: Helper>(
     alloc: Global,
     rt: &R,
+    memo: &Memo,
     door: &LaneDoor<'_, J, P, G, H>,
 ) -> Result<bool, OpFault>
     requires door { IsDoor (lane_terms_of P.exports P.rules door.now.lock.now.1)
         door.now.reads.now door.now.writes.now door.now.sources.now }
 {
-    match serve_lane(alloc, rt, door)? {
+    match serve_lane(alloc, rt, memo, door)? {
         Served::Busy => Ok(true),
         Served::Idle => Ok(false),
         Served::Blocked { cursor } => {

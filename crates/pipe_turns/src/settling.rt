@@ -6,6 +6,7 @@ ghost use Rattle.pipe_turns.specs.Turns.{CanTurn, KeepsLane, Settles};
 
 use crate::turns::{LaneDid, turn_lane};
 use attrs::{Judge, Src};
+use entry_memo::Memo;
 use export_lock::PipeLane;
 use import_lock::OpFault;
 use outside_io::Gate;
@@ -55,8 +56,9 @@ pub fn settle_lane<R: Wait, G: Gate, J: Judge>(
     ensures keeps { KeepsLane J.verdict sources.now lane result.0 }
     ensures settles { IfOk result.1 (Settles result.0) }
 {
+    let memo = Memo::none(alloc);
     for _ in rt.forever() {
-        let (next, did) = turn_lane(alloc, rt, gate, reads, writes, sources, lane);
+        let (next, did) = turn_lane(alloc, rt, gate, &memo, reads, writes, sources, lane);
         lane = next;
         match did {
             Ok(did) => {

@@ -7,6 +7,7 @@ ghost use Rattle.pipe_turns.specs.Inside.{DoesPush, answer_of, did_of, refusal_a
 ghost use Rattle.pipe_turns.specs.Turns.{CanTurn, Does, Fails, KeepsLane};
 
 use attrs::{Judge, Src};
+use entry_memo::Memo;
 use export_core::{FeedState, PushFault, Pushed};
 use export_lock::{ExportState, PipeLane};
 use import_lock::OpFault;
@@ -97,6 +98,7 @@ fn take_or_push<R: Wait, G: Gate, J: Judge>(
     alloc: Global,
     rt: &R,
     gate: &G,
+    memo: &Memo,
     writes: &Table,
     sources: &[Src],
     mut lane: PipeLane<J>,
@@ -108,7 +110,7 @@ fn take_or_push<R: Wait, G: Gate, J: Judge>(
     ensures did { IfOk result.1 (Does J.verdict sources.now lane result.0) }
     ensures fails { IfErr result.1 (Fails J.verdict sources.now lane result.0) }
 {
-    let Ok(took) = lane.state.take_turn(alloc) else {
+    let Ok(took) = lane.state.take_turn(alloc, memo) else {
         return (lane, Err(OpFault::Memory));
     };
     if took {
@@ -146,6 +148,7 @@ pub fn turn_lane<R: Wait, G: Gate, J: Judge>(
     alloc: Global,
     rt: &R,
     gate: &G,
+    memo: &Memo,
     reads: &Table,
     writes: &Table,
     sources: &[Src],
@@ -159,5 +162,5 @@ pub fn turn_lane<R: Wait, G: Gate, J: Judge>(
     if is_feeding(&lane.state) {
         return feed(rt, reads, sources, lane);
     }
-    take_or_push(alloc, rt, gate, writes, sources, lane)
+    take_or_push(alloc, rt, gate, memo, writes, sources, lane)
 }

@@ -2,6 +2,7 @@
 use attrs::Judge;
 use bits_ip::OutOfMemory;
 use channel_turns::pass_all;
+use entry_memo::Memo;
 use export_lock::Sends;
 use import_lock::Phase;
 use phase_pipes::PipeSession;
@@ -37,6 +38,10 @@ pub struct Channels {
     readers: Vec<Option<Reader>>,
     /// Its cursors of tables that it doesn't read. They are closed, and lag like any other.
     pub(crate) spares: Vec<Mutex<Vec<TableCursor>>>,
+    /// By table which of its entries were read lately.
+    memos: Vec<Memo>,
+    /// One that remembers nothing.
+    nothing: Memo,
 }
 
 /// The number of a channel's cursor.
@@ -104,6 +109,17 @@ fn find_readers<R: Wait, J: Judge + Drop, P: Phase + Sends>(
     }
 }
 
+/// How many entries of a table are remembered.
+const REMEMBERED: usize = 256;
+
+fn memos(alloc: Global, tables: usize) -> Result<Vec<Memo>, OutOfMemory> {
+    let mut memos = Vec::new(alloc);
+    for _ in 0..tables {
+        memos.push(Memo::new(alloc, REMEMBERED)?)?;
+    }
+    Ok(memos)
+}
+
 impl Channels {
     /// Finds who reads for the members of a room. There are as many channels as lists of spare
     /// cursors: in the place of a channel's number stand its cursors of tables that it doesn't
@@ -121,7 +137,20 @@ impl Channels {
             spares.push(Mutex::new(list))?;
         }
         find_readers(rt, room, &mut readers);
-        Ok(Channels { readers, spares })
+        Ok(Channels {
+            readers,
+            spares,
+            memos: memos(alloc, room.tables.len())?,
+            nothing: Memo::none(alloc),
+        })
+    }
+
+    /// What was read lately of the entries of a table.
+    pub(crate) fn memo(&self, table: usize) -> &Memo {
+        match self.memos.get(table) {
+            Some(memo) => memo,
+            None => &self.nothing,
+        }
     }
 
     /// How many channels there are.

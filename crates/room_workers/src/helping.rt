@@ -15,10 +15,11 @@ use std::sync::Wait;
 fn help_own<R: Wait, J: Judge + Drop, P: Phase + Sends>(
     alloc: Global,
     rt: &R,
+    channels: &Channels,
     session: &Session<J, P>,
 ) {
     if let Some(channel) = &session.export {
-        help_channel(alloc, rt, channel);
+        help_channel(alloc, rt, channels.memo(session.table as usize), channel);
     }
 }
 
@@ -26,12 +27,13 @@ fn help_own<R: Wait, J: Judge + Drop, P: Phase + Sends>(
 fn help_pipe<R: Wait, J: Judge + Drop, P: Phase + Sends>(
     alloc: Global,
     rt: &R,
+    channels: &Channels,
     pipe: &PipeSession<J, P>,
     heading: Heading,
 ) {
     match heading {
-        Heading::Out => help_lane(alloc, rt, &pipe.out),
-        Heading::Back => help_lane(alloc, rt, &pipe.back),
+        Heading::Out => help_lane(alloc, rt, channels.memo(pipe.primary as usize), &pipe.out),
+        Heading::Back => help_lane(alloc, rt, channels.memo(pipe.peer as usize), &pipe.back),
     }
 }
 
@@ -58,8 +60,8 @@ impl<J: Judge + Drop, P: Phase + Sends> Helper for Help<'_, J, P> {
             return;
         };
         match member {
-            Member::Own(session) => help_own(self.alloc, rt, session),
-            Member::Pipe(pipe) => help_pipe(self.alloc, rt, pipe, reader.heading),
+            Member::Own(session) => help_own(self.alloc, rt, self.channels, session),
+            Member::Pipe(pipe) => help_pipe(self.alloc, rt, self.channels, pipe, reader.heading),
         }
     }
 }

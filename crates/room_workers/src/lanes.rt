@@ -5,7 +5,9 @@ ghost use Rattle.pipe_lock.specs.Doors.{IsDoor};
 ghost use Rattle.room_members.specs.Members.{IsRoom};
 ghost use Rattle.room_members.specs.declared.member.Member.TheVariants.{Pipe};
 
+use crate::channels::Channels;
 use attrs::{Judge, Src};
+use entry_memo::Memo;
 use export_lock::Sends;
 use import_lock::{Helper, OpFault, Phase};
 use outside_io::Gate;
@@ -26,6 +28,7 @@ fn serve_lane<'a, R: Wait, G: Gate, H: Helper, J: Judge + Drop, P: Sends>(
     rt: &R,
     gate: &'a G,
     helper: &'a H,
+    memo: &Memo,
     lock: &'a LaneLock<J, P>,
     reads: &'a Table,
     writes: &'a Table,
@@ -42,7 +45,7 @@ fn serve_lane<'a, R: Wait, G: Gate, H: Helper, J: Judge + Drop, P: Sends>(
         writes,
         sources,
     };
-    let busy = serve_or_help(alloc, rt, &door);
+    let busy = serve_or_help(alloc, rt, memo, &door);
     let LaneDoor {
         lock: _lock,
         gate: _gate,
@@ -61,6 +64,7 @@ pub(crate) fn serve_out<R: Wait, G: Gate, H: Helper, J: Judge + Drop, P: Phase +
     gate: &G,
     helper: &H,
     room: &Room<J, P>,
+    channels: &Channels,
     pipe: &PipeSession<J, P>,
 ) -> Result<bool, OpFault>
     requires room { IsRoom P.terms P.exports P.rules room.now }
@@ -70,7 +74,10 @@ pub(crate) fn serve_out<R: Wait, G: Gate, H: Helper, J: Judge + Drop, P: Phase +
     let primary = &room.tables[pipe.primary as usize];
     let peer = &room.tables[pipe.peer as usize];
     let sources = room.sources.as_slice();
-    serve_lane(alloc, rt, gate, helper, &pipe.out, primary, peer, sources)
+    let memo = channels.memo(pipe.primary as usize);
+    serve_lane(
+        alloc, rt, gate, helper, memo, &pipe.out, primary, peer, sources,
+    )
 }
 
 /// The same of the direction back.
@@ -80,6 +87,7 @@ pub(crate) fn serve_back<R: Wait, G: Gate, H: Helper, J: Judge + Drop, P: Phase 
     gate: &G,
     helper: &H,
     room: &Room<J, P>,
+    channels: &Channels,
     pipe: &PipeSession<J, P>,
 ) -> Result<bool, OpFault>
     requires room { IsRoom P.terms P.exports P.rules room.now }
@@ -89,5 +97,8 @@ pub(crate) fn serve_back<R: Wait, G: Gate, H: Helper, J: Judge + Drop, P: Phase 
     let primary = &room.tables[pipe.primary as usize];
     let peer = &room.tables[pipe.peer as usize];
     let sources = room.sources.as_slice();
-    serve_lane(alloc, rt, gate, helper, &pipe.back, peer, primary, sources)
+    let memo = channels.memo(pipe.peer as usize);
+    serve_lane(
+        alloc, rt, gate, helper, memo, &pipe.back, peer, primary, sources,
+    )
 }

@@ -18,7 +18,6 @@ mod lanes;
 mod pace;
 mod serving;
 mod spares;
-mod taking;
 
 pub use bell::Bell;
 pub use channels::{Channels, Heading, Reader};

@@ -8,9 +8,8 @@ use crate::channels::{Channels, Heading, Reader};
 use crate::helping::Help;
 use crate::lanes::{serve_back, serve_out};
 use crate::pace::Pace;
-use crate::taking::take_some;
 use attrs::Judge;
-use channel_turns::serve_channel;
+use channel_turns::{read_channel, serve_channel};
 use export_lock::Sends;
 use import_lock::{Helper, OpFault, Phase};
 use outside_io::Gate;
@@ -32,6 +31,7 @@ fn serve_own<R: Wait, G: Gate, J: Judge + Drop, P: Phase + Sends>(
     rt: &R,
     gate: &G,
     room: &Room<J, P>,
+    channels: &Channels,
     session: &Session<J, P>,
     sends: bool,
 ) -> Result<bool, OpFault>
@@ -41,10 +41,11 @@ fn serve_own<R: Wait, G: Gate, J: Judge + Drop, P: Phase + Sends>(
     match &session.export {
         Some(channel) => {
             let table = &room.tables[session.table as usize];
+            let memo = channels.memo(session.table as usize);
             let busy = if sends {
-                serve_channel(alloc, rt, gate, table, channel)
+                serve_channel(alloc, rt, gate, memo, table, channel)
             } else {
-                take_some(alloc, rt, gate, channel)
+                read_channel(alloc, rt, gate, memo, channel)
             };
             match busy {
                 Ok(busy) => Ok(busy),
@@ -62,6 +63,7 @@ fn serve_pipe<R: Wait, G: Gate, H: Helper, J: Judge + Drop, P: Phase + Sends>(
     gate: &G,
     helper: &H,
     room: &Room<J, P>,
+    channels: &Channels,
     pipe: &PipeSession<J, P>,
     heading: Heading,
 ) -> Result<bool, OpFault>
@@ -69,8 +71,8 @@ fn serve_pipe<R: Wait, G: Gate, H: Helper, J: Judge + Drop, P: Phase + Sends>(
     requires there { (number : ℕ) × (slice_get room.now.members.items number ≡ Some (Pipe pipe.now)) }
 {
     match heading {
-        Heading::Out => serve_out(alloc, rt, gate, helper, room, pipe),
-        Heading::Back => serve_back(alloc, rt, gate, helper, room, pipe),
+        Heading::Out => serve_out(alloc, rt, gate, helper, room, channels, pipe),
+        Heading::Back => serve_back(alloc, rt, gate, helper, room, channels, pipe),
     }
 }
 
@@ -81,6 +83,7 @@ fn serve_reader<R: Wait, G: Gate, H: Helper, J: Judge + Drop, P: Phase + Sends>(
     gate: &G,
     helper: &H,
     room: &Room<J, P>,
+    channels: &Channels,
     reader: Reader,
     sends: bool,
 ) -> Result<bool, OpFault>
@@ -91,8 +94,17 @@ fn serve_reader<R: Wait, G: Gate, H: Helper, J: Judge + Drop, P: Phase + Sends>(
         return Ok(false);
     }
     match &room.members[number] {
-        Member::Own(session) => serve_own(alloc, rt, gate, room, session, sends),
-        Member::Pipe(pipe) => serve_pipe(alloc, rt, gate, helper, room, pipe, reader.heading),
+        Member::Own(session) => serve_own(alloc, rt, gate, room, channels, session, sends),
+        Member::Pipe(pipe) => serve_pipe(
+            alloc,
+            rt,
+            gate,
+            helper,
+            room,
+            channels,
+            pipe,
+            reader.heading,
+        ),
     }
 }
 
@@ -114,7 +126,7 @@ fn serve_all<R: Wait, G: Gate, H: Helper, J: Judge + Drop, P: Phase + Sends>(
     for channel in 0..channels.count() {
         if channel % 4 == worker {
             if let Some(reader) = channels.reader(channel) {
-                busy |= serve_reader(alloc, rt, gate, helper, room, reader, sends)?;
+                busy |= serve_reader(alloc, rt, gate, helper, room, channels, reader, sends)?;
             }
         }
     }

@@ -1,6 +1,0 @@
-use Rattle.std.proofs.Common.{false}
-use Rattle.export_lock.specs.Locks.{terms_of}
-use Rattle.room_workers.proofs.taking.take_one.Goals as goal
-
-pub unlock-requires-clause-value : goal.unlock-requires-clause-value
-unlock-requires-clause-value g c = c.take_turn-took.ensures.goes false (terms_of g.P.Sends.exports c.args.channel.now.1) c.lock-held.ensures.value
