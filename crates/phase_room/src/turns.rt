@@ -157,7 +157,7 @@ impl<J: Judge + Drop, P: Phase + Sends> Session<J, P> {
     {
         match state.op_turn(rt, gate, table, helper, hand, line, op) {
             Ok(plan) => {
-                state.share(rt, table, pass);
+                state.share(pass);
                 self.finish(rt, table, state, plan)
             }
             Err(fault) => Err(fault),

@@ -23,7 +23,7 @@ use phase_pipes::PipeSession;
 use phase_room::Session;
 use room_members::{Member, Room};
 use std::sync::Wait;
-use table_shared::{Table, TablePass};
+use table_shared::TablePass;
 
 /// A hand has seen the whole list of turns, of which the other one has seen a front.
 fn tell_turns(turns: &mut Turns, other: &mut Hand, hand: &mut Hand)
@@ -41,18 +41,15 @@ fn tell_turns(turns: &mut Turns, other: &mut Hand, hand: &mut Hand)
 
 /// The same of a protocol with routes of its own, of which the pass has then seen what these turns
 /// gave. A fault that came before comes again.
-fn tell_imports<R: Wait, J: Judge>(
-    rt: &R,
-    table: &Table,
+fn tell_imports<J: Judge>(
     state: &mut ImportState<J>,
     other: &mut Hand,
     hand: &mut Hand,
     pass: &mut TablePass,
 ) -> Result<(), OpFault>
     requires imports { (key : ImportTerms) × IsImports J.verdict key state.old
-        × (key.port ≡ table.now)
+        × (journal pass.old ≡ key.port)
         × (journal other.old ≡ key.turns) × (journal hand.old ≡ key.turns) }
-    requires pass { journal pass.old ≡ table.now }
     ensures kept { (key : ImportTerms) → IsImports J.verdict key state.old
         → IsImports J.verdict key state.new }
     ensures other { other.new ≡ other.old }
@@ -66,7 +63,7 @@ fn tell_imports<R: Wait, J: Judge>(
         Some(fault) => Err(fault),
         None => {
             tell_turns(&mut state.turns, other, hand);
-            state.share(rt, table, pass);
+            state.share(pass);
             Ok(())
         }
     }
@@ -93,11 +90,9 @@ fn tell_own<R: Wait, J: Judge + Drop, P: Phase + Sends>(
     ensures seen { IfOk result (λ _.
         IsAllSeen (room_seen P.terms room.now) number hand.new passes.new.items) }
 {
-    let place = session.table as usize;
-    let table = &room.tables[place];
-    let pass = &mut passes[place];
+    let pass = &mut passes[session.table as usize];
     let (held, mut state) = session.import.lock(rt);
-    let told = tell_imports(rt, table, &mut state, other, hand, pass);
+    let told = tell_imports(&mut state, other, hand, pass);
     session.import.unlock(held, state);
     told
 }

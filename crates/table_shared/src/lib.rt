@@ -3,10 +3,10 @@
 //!
 //! A change is an entry of the journal, which cursors read without the lock. A `Port` is the token
 //! of one entering channel; its receipts are the entries that it made. `Table::update` enters a
-//! change, `snapshot` and `feed` show rows at the head, `start_cursor`, `start` and `share` tell a
-//! cursor, a port or a pass what the table knows, and `close_phase` ends the phase: then the
-//! entries of each port's number are its receipts, and what each pass and cursor has seen begins
-//! the list.
+//! change, `snapshot` and `feed` show rows at the head, `start_cursor` and `start` tell a cursor or
+//! a port what the table knows, `Port::share` tells a pass what the port does, and `close_phase`
+//! ends the phase: then the entries of each port's number are its receipts, and what each pass and
+//! cursor has seen begins the list.
 //!
 //! `law` has what entries owe, `desk` what lies under the lock, `update` and `shows` its calls,
 //! `close` the end of a phase, `taking` what a cursor's words say.

@@ -55,6 +55,19 @@ impl Port {
         Ok(self.maker.split()?)
     }
 
+    /// The pass takes in a copy of what the port has seen, each entry that the port made among it,
+    /// and loads the head: what either had seen begins what the pass has seen then. It takes no
+    /// lock.
+    pub fn share(&mut self, pass: &mut TablePass)
+        requires { journal pass.old ≡ journal self.old }
+        ensures same { (self.new ≡ self.old) × (journal pass.new ≡ journal pass.old) }
+        ensures known { known pass.old.1 ≤ known pass.new.1 }
+        ensures shared { IsPrefix (front self.old.1) (front pass.new.1) }
+        ensures prefix { IsPrefix (front pass.old.1) (front pass.new.1) }
+    {
+        self.maker.tell(pass);
+    }
+
     /// Takes in a copy of what the pass has seen, and loads the head. What it had seen begins what
     /// it has seen then, so its receipts begin its new ones. Which of the entries that are new to
     /// it are its own isn't told: a call under the table's lock (`Table::start`) keeps its

@@ -99,21 +99,6 @@ impl Desk {
         self.writer.tell_maker(maker);
         head
     }
-
-    /// Tells the pass the whole list, which what the maker has seen begins. Answers the head.
-    pub(crate) fn share(&mut self, maker: &mut TableMaker, pass: &mut TablePass) -> u64
-        requires kept { IsKept (journal pass.old) self.old }
-        requires here { journal maker.old ≡ journal pass.old }
-        ensures kept { IsKept (journal pass.old) self.new }
-        ensures here { (journal pass.new ≡ journal pass.old) × (maker.new ≡ maker.old) }
-        ensures told { IsTold result pass.old.1 pass.new.1 }
-        ensures least { (known pass.old.1 ≤ result) × (head_of pass.old.1 ≤ result) }
-        ensures shared { IsPrefix (front maker.old.1) (front pass.new.1) }
-        ensures prefix { IsPrefix (front pass.old.1) (front pass.new.1) }
-    {
-        self.writer.hear_maker(maker);
-        self.writer.tell_pass(pass)
-    }
 }
 
 /// The net behind the first rows from a net on, where there is one.

@@ -233,22 +233,6 @@ impl Table {
         head
     }
 
-    /// The pass then has seen the list up to the head, which it loads, and which is answered; what
-    /// the port has seen begins that.
-    pub fn share<R: Wait>(&self, rt: &R, port: &mut Port, pass: &mut TablePass) -> u64
-        requires here { (journal port.old ≡ self.now) × (journal pass.old ≡ self.now) }
-        ensures here { (journal pass.new ≡ journal pass.old) × (port.new ≡ port.old) }
-        ensures told { IsTold result pass.old.1 pass.new.1 }
-        ensures least { (known pass.old.1 ≤ result) × (head_of pass.old.1 ≤ result) }
-        ensures shared { IsPrefix (front port.old.1) (front pass.new.1) }
-        ensures prefix { IsPrefix (front pass.old.1) (front pass.new.1) }
-    {
-        let (held, mut desk) = self.lock.lock(rt);
-        let head = desk.share(&mut port.maker, pass);
-        self.lock.unlock(held, desk);
-        head
-    }
-
     /// Ends the phase, which nobody else works at any more. `Closing` then takes what ports, passes
     /// and cursors know.
     pub fn close<R: Wait>(self, rt: &R) -> Closing

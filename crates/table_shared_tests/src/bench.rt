@@ -272,9 +272,10 @@ impl Bench {
         Ok(Some(self.cursor.skip(pass)))
     }
 
-    /// The pass learns what the table has. Answers the head.
-    pub fn share<R: Wait>(&mut self, rt: &R) -> u64 {
-        self.table.share(rt, &mut self.second, &mut self.pass)
+    /// The pass learns what the second port has seen. Answers how far it has seen then.
+    pub fn share(&mut self) -> u64 {
+        self.second.share(&mut self.pass);
+        self.pass.seen()
     }
 
     /// The second port meets the pass. Answers what it has seen then.

@@ -17,7 +17,7 @@ fn two_routes<R: Wait + Abort>(rt: &R, bench: &mut Bench, alloc: Global) -> Resu
         bench.second(rt, alloc, &ten, 100),
         Ok(Done::Same { at: 2 })
     );
-    assert_eq!(rt; bench.share(rt), 2);
+    assert_eq!(rt; bench.share(), 2);
     assert_eq!(rt; bench.meet(), 2);
     Ok(())
 }

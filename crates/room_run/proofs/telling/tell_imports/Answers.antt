@@ -13,7 +13,7 @@ tell_turns-requires g c =
 pub share-requires : goal.share-requires
 share-requires g c =
     let r = c.requires.imports in
-    record { here = ((fresh g.J.Judge.verdict r.0 c.args.state.now c.in-None.is r.1).1.importing.port ∙ r.2, c.requires.pass) }
+    r.2 ∙ sym (fresh g.J.Judge.verdict r.0 c.args.state.now c.in-None.is r.1).1.importing.port
 
 pub returns-in-Some-clause-kept : goal.returns-in-Some-clause-kept
 returns-in-Some-clause-kept g c = λ key imports. imports

@@ -6,11 +6,8 @@ use Rattle.import_lock.specs.Locks.{terms_of}
 use Rattle.phase_legal.specs.Shown.{IsSeen}
 use Rattle.phase_room.specs.Sessions.{protocol_terms}
 use Rattle.room_members.proofs.Passes.{one_grown, one_there}
-use Rattle.room_members.proofs.Rooms.{home_here, pass_here, pass_there, seen_here, table_here, table_there}
+use Rattle.room_members.proofs.Rooms.{home_here, pass_here, pass_there, seen_here}
 use Rattle.room_run.proofs.telling.tell_own.Goals as goal
-
-pub index-table-requires : goal.index-table-requires
-index-table-requires g c = table_there g.P.Phase.terms g.P.Sends.exports g.P.Sends.rules c.args.room.now c.requires.room c.args.number c.args.session.now c.requires.there
 
 pub index_mut-pass-requires : goal.index_mut-pass-requires
 index_mut-pass-requires g c =
@@ -23,10 +20,8 @@ tell_imports-told-requires g c =
     let passes = c.args.passes.now.items in
     let w = pass_there g.P.Phase.terms g.P.Sends.exports g.P.Sends.rules c.args.room.now c.requires.room c.args.number c.args.session.now c.requires.there passes c.requires.passes in
     let at = slice_get_read passes (length passes) c.args.session.now.table c.index_mut-pass.result.now refl w c.index_mut-pass.ensures.value in
-    let here = table_here g.P.Phase.terms g.P.Sends.exports g.P.Sends.rules c.args.room.now c.requires.room c.args.number c.args.session.now c.requires.there c.index-table.result.now c.index-table.ensures in record {
-      imports = (terms_of g.P.Phase.terms c.args.session.now.import.1, c.lock-held.ensures.value, here, c.requires.hands.0, c.requires.hands.1);
-      pass = pass_here g.P.Phase.terms g.P.Sends.exports g.P.Sends.rules c.args.room.now c.requires.room c.args.number c.args.session.now c.requires.there passes c.requires.passes c.index_mut-pass.result.now at ∙ here;
-    }
+    let here = pass_here g.P.Phase.terms g.P.Sends.exports g.P.Sends.rules c.args.room.now c.requires.room c.args.number c.args.session.now c.requires.there passes c.requires.passes c.index_mut-pass.result.now at in
+    record { imports = (terms_of g.P.Phase.terms c.args.session.now.import.1, c.lock-held.ensures.value, here, c.requires.hands.0, c.requires.hands.1) }
 
 pub unlock-requires-clause-value : goal.unlock-requires-clause-value
 unlock-requires-clause-value g c = c.tell_imports-told.ensures.kept (terms_of g.P.Phase.terms c.args.session.now.import.1) c.lock-held.ensures.value

@@ -1,4 +1,4 @@
-use Rattle.std.proofs.Common.{◌∙◌, ap, sym}
+use Rattle.std.proofs.Common.{◌∙◌, ap}
 use Rattle.import_lock.proofs.Sharing.{seen_of}
 use Rattle.import_lock.proofs.state.ImportState.share.Goals as goal
 
@@ -12,9 +12,9 @@ returns-clause-same g c = ap (λ z. record {
   turns = c.args.self.now.turns;
   stamp = c.args.self.now.stamp;
   fault = c.args.self.now.fault;
-}) c.share.ensures.here.1
+}) c.share.ensures.same.0
 
 pub returns-clause-seen : goal.returns-clause-seen
 returns-clause-seen g c = λ key made room hand o rest is same.
     seen_of g.J.Judge.verdict key made c.args.self.now room hand c.share.new.pass o rest is same
-    (c.share.ensures.here.0 ∙ c.requires.here.1 ∙ sym c.requires.here.0) c.share.ensures.shared
+    (c.share.ensures.same.1 ∙ c.requires) c.share.ensures.shared

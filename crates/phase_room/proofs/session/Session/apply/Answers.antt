@@ -30,7 +30,7 @@ pub share-requires : goal.share-requires
 share-requires g c =
     let r = c.requires.free in
     let f = fresh g.J.Judge.verdict r.0 c.args.state.now c.requires.none r.1 in
-    record { here = ((c.in-Ok.ensures.due r.0 f.0 f.1 c.requires.none r.4).1.importing.port ∙ r.2, c.requires.pass) }
+    c.requires.pass ∙ sym ((c.in-Ok.ensures.due r.0 f.0 f.1 c.requires.none r.4).1.importing.port ∙ r.2)
 
 pub finish-requires-clause-due : goal.finish-requires-clause-due
 finish-requires-clause-due g c =
