@@ -22,7 +22,7 @@ use std::sync::Wait;
 use std::thread;
 use std::thread::{JoinHandle, Scope, Threads};
 
-/// The thread of the worker of a number, if one can be started.
+/// The thread of the worker of a number, if it has a channel to serve and one can be started.
 fn start_worker<
     's,
     E,
@@ -42,6 +42,9 @@ fn start_worker<
 ) -> Option<JoinHandle<Result<(), OpFault>>>
     requires room { IsRoom P.terms P.exports P.rules room.now }
 {
+    if worker >= channels.count() {
+        return None;
+    }
     match scope.spawn(
         move || -> Result<(), OpFault>
             requires { IsRoom P.terms P.exports P.rules room.now }

@@ -17,6 +17,9 @@ use std::snapshot::Snapshot;
 use std::sync::Wait;
 use std::thread::{Scope, Threads};
 
+/// To go through so many lines takes less time than to start a thread.
+const FEW: usize = 4096;
+
 /// An actor does its lines, to their end or to its first fault.
 fn act_out<R: Wait, G: Gate, H: Helper, A: Answers, J: Judge + Drop, P: Phase + Sends>(
     rt: &R,
@@ -47,7 +50,23 @@ fn act_out<R: Wait, G: Gate, H: Helper, A: Answers, J: Judge + Drop, P: Phase + 
     Acted { actor, fault }
 }
 
-/// Starts the actor's thread. Where that can't be, the actor does its lines at once.
+/// Whether the line is the actor's.
+fn is_line_of(line: &Line, number: u32) -> bool {
+    match line {
+        Line::Take { .. } => false,
+        Line::Push { .. } => false,
+        Line::Apply { actor, .. } => *actor == number,
+        Line::Show { actor, .. } => *actor == number,
+    }
+}
+
+/// Whether the actor of a number may have something to do: few lines are looked through.
+fn is_busy(lines: &[Line], number: u32) -> bool {
+    lines.len() > FEW || lines.iter().any(|line| is_line_of(line, number))
+}
+
+/// Starts the actor's thread. Where that can't be, and where none of few lines is the actor's, it
+/// goes through the lines at once.
 pub fn start<
     's,
     E,
@@ -73,6 +92,9 @@ pub fn start<
     ensures is { IsStarted P.terms room.now result }
     ensures number { number_in result ≡ actor.number }
 {
+    if !is_busy(lines.as_slice(), actor.number) {
+        return Started::Done(act_out(rt, gate, helper, answers, room, queries, lines, actor));
+    }
     let owes = Owes {
         room: Snapshot::of(room),
         actor: actor.number,
