@@ -19,7 +19,7 @@ use Rattle.export_core.specs.Candidates.{among}
 use Rattle.phase_legal.specs.Changes.{IsAlone}
 use Rattle.phase_room.specs.Rooms.{TableTerms}
 use Rattle.table_shared.specs.Opening.{TableOpening, sources_of}
-use Rattle.phase_pipes.specs.Ports.{EntersAlone, all_passed_on, joined_terms, passed_on, port_sources, ports_from}
+use Rattle.phase_pipes.specs.Ports.{EntersAlone, all_passed_on, joined_opening, passed_on, port_sources, ports_from}
 use Rattle.phase_pipes.specs.Stands.{IsDirectionOf}
 use Rattle.phase_pipes.proofs.Beginning.{target_is}
 use Rattle.phase_pipes.proofs.Sourcing.{in_either, in_first, passed_there, there_passed}
@@ -96,7 +96,7 @@ module _ (setup : Setup) (table : ℕ) where
 
   module _ (stood : TableTerms) where
     abbrev opening_now : TableOpening
-    opening_now = (joined_terms setup table stood).opening
+    opening_now = joined_opening setup table stood
 
     mine_at : (i num : ℕ) (p : Protocol) → protocol_at setup i ≡ Some p → Contains (port_sources setup table i) num → Contains (sources_of opening_now i) num
     mine_at i num p e w =
@@ -125,7 +125,7 @@ module _ (setup : Setup) (is : IsSetup setup) (are : IsRules (rules_of setup)) (
 
   module _ (number d : ℕ) (protocol : Protocol) (here : protocol_at setup number ≡ Some protocol) (owner : (rules_of setup).owner d ≡ number) (target : (rules_of setup).target d ≡ Some table)
       (listed : among d ((rules_of setup).belong number) ≡ true) (away : (rules_of setup).table number ≢ table) (only : (c : ℕ) → among c ((rules_of setup).belong number) ≡ true → (rules_of setup).target c ≡ Some table → c ≡ d) where
-    pub enters_alone : EntersAlone (rules_of setup) d (joined_terms setup table stood).opening number
+    pub enters_alone : EntersAlone (rules_of setup) d (joined_opening setup table stood) number
     enters_alone = record {
       mine = λ num goes. mine_at setup table stood number num protocol here (port_passed setup table number d num listed target (passed_there setup is are d table target num goes));
       alone = record {
@@ -192,10 +192,10 @@ module _ (setup : Setup) (is : IsSetup setup) (are : IsRules (rules_of setup)) (
     | inr same ↦ sym same
   ]
 
-  pub out_alone : EntersAlone (rules_of setup) out (joined_terms setup pipe.peer stood).opening number
+  pub out_alone : EntersAlone (rules_of setup) out (joined_opening setup pipe.peer stood) number
   out_alone = enters_alone setup is are pipe.peer stood number out protocol here (owner_is out pipe.primary pipe.peer out_of) out_target (listed_is out pipe.primary pipe.peer out_of) (nowhere pipe.peer fits.peer) out_only
 
-  pub back_alone : EntersAlone (rules_of setup) back (joined_terms setup pipe.primary stood).opening number
+  pub back_alone : EntersAlone (rules_of setup) back (joined_opening setup pipe.primary stood) number
   back_alone = enters_alone setup is are pipe.primary stood number back protocol here (owner_is back pipe.peer pipe.primary back_of) back_target (listed_is back pipe.peer pipe.primary back_of) (nowhere pipe.primary fits.primary) back_only
 
 -- ---- a protocol with routes of its own
@@ -222,10 +222,10 @@ module _ (setup : Setup) (is : IsSetup setup) (are : IsRules (rules_of setup)) (
       let sends = b.sends source (ap (λ (q : Protocol). q.body) same ∙ body) in
       false≢true (sym (sends_best source.spec.kind (family_at setup.tables source.table) source.exports at.0.exports source_fits.session sends) ∙ b.every ∙ ap is_some (sym (ap target_at at.1) ∙ target))
 
-  pub own_mine : Contains (sources_of (joined_terms setup source.table stood).opening number) number
+  pub own_mine : Contains (sources_of (joined_opening setup source.table stood) number) number
   own_mine = mine_at setup source.table stood number number protocol here (port_own setup source.table number home_is)
 
-  pub own_alone : IsAlone (λ num. num == number) (joined_terms setup source.table stood).opening number
+  pub own_alone : IsAlone (λ num. num == number) (joined_opening setup source.table stood) number
   own_alone = record {
     mine = λ num w. elim (port_cases setup source.table number num (any_at setup source.table stood number num w)) [
       | inl e ↦ ap (λ n. n == number) (sym e.1) ∙ itself_is number

@@ -50,16 +50,26 @@ module _ (setup : Setup) (table : ℕ) where
   abbrev pub ports_with_pipes : List (List ℕ)
   ports_with_pipes = ports_from 0 setup.protocols
 
--- what the journal of the table of a number begins with
-abbrev pub joined_terms : Setup → ℕ → TableTerms → Terms TableOpening
-joined_terms setup number stood = record {
+-- what the table of a number begins with
+abbrev pub joined_opening : Setup → ℕ → TableTerms → TableOpening
+joined_opening setup number stood = record {
+  family = stood.family;
+  rows = stood.rows;
+  ports = ports_with_pipes setup number;
+}
+
+-- and its journal, which has some cells
+abbrev pub joined_terms : (cells : ℕ) → Setup → ℕ → TableTerms → Terms TableOpening
+joined_terms cells setup number stood = record {
   start = length stood.before;
-  cells = setup.cells;
+  cells = cells;
   cursors = length (channels setup);
   makers = length setup.protocols;
-  opening = record {
-    family = stood.family;
-    rows = stood.rows;
-    ports = ports_with_pipes setup number;
-  };
+  opening = joined_opening setup number stood;
 }
+
+pub record IsJoined
+    (setup : Setup) (number : ℕ) (stood : TableTerms) (terms : Terms TableOpening)
+    : Type 0 where
+  pub cells : ℕ
+  pub terms_are : terms ≡ joined_terms cells setup number stood

@@ -27,7 +27,7 @@ ghost use Rattle.phase_legal.specs.Shown.{Room};
 ghost use Rattle.phase_legal.specs.Stamps.{AreUpTo};
 ghost use Rattle.phase_pipes.specs.First.{one_pipe, open_exporter};
 ghost use Rattle.phase_pipes.specs.Left.{IsDirectionLeft};
-ghost use Rattle.phase_pipes.specs.Ports.{EntersAlone, joined_terms, ports_with_pipes};
+ghost use Rattle.phase_pipes.specs.Ports.{EntersAlone, joined_opening, joined_terms, ports_with_pipes};
 ghost use Rattle.phase_pipes.specs.Sessions.{IsDirectionIn};
 ghost use Rattle.phase_pipes.specs.Sources.{AreSourcesOf};
 ghost use Rattle.phase_pipes.specs.Stands.{IsDirectionOf, StandsDirection, StandsPipe};
@@ -59,20 +59,19 @@ pub fn each_source_has_one_port()
         → protocol.body ≡ IsPipe pipe → (rules_of setup).belong number ≡ out ∷ back ∷ []
         → IsDirectionOf setup number out pipe.primary pipe.peer
         → IsDirectionOf setup number back pipe.peer pipe.primary
-        → EntersAlone (rules_of setup) out (joined_terms setup pipe.peer stood).opening number }
+        → EntersAlone (rules_of setup) out (joined_opening setup pipe.peer stood) number }
     ensures back { (setup : Setup) (number out back : ℕ) (protocol : Protocol) (pipe : Pipe)
         (stood : TableTerms) → IsSetup setup → protocol_at setup number ≡ Some protocol
         → protocol.body ≡ IsPipe pipe → (rules_of setup).belong number ≡ out ∷ back ∷ []
         → IsDirectionOf setup number out pipe.primary pipe.peer
         → IsDirectionOf setup number back pipe.peer pipe.primary
-        → EntersAlone (rules_of setup) back (joined_terms setup pipe.primary stood).opening
-        number }
+        → EntersAlone (rules_of setup) back (joined_opening setup pipe.primary stood) number }
     ensures own { (setup : Setup) (number : ℕ) (protocol : Protocol) (source : Source)
         (stood : TableTerms) → IsSetup setup → protocol_at setup number ≡ Some protocol
         → protocol.body ≡ IsSource source
-        → IsOwnPort number (joined_terms setup source.table stood).opening }
-    ensures begins { (setup : Setup) (number : ℕ) (stood : TableTerms)
-        → BeginsTable stood (joined_terms setup number stood) }
+        → IsOwnPort number (joined_opening setup source.table stood) }
+    ensures begins { (cells : ℕ) (setup : Setup) (number : ℕ) (stood : TableTerms)
+        → BeginsTable stood (joined_terms cells setup number stood) }
 {
     setups_are_as_asked();
 }

@@ -65,7 +65,7 @@ module _ {J P : Type 0} (terms : P → PhaseTerms) (exports : P → ℕ → Expo
     told_at table here at =
         let one = one_here (IsOpenTable (terms played)) stood begun.room.tables.items laid.tables_are table here at in
         let inside = get_within stood table one.0 one.1 in
-        ap (λ (t : Terms TableOpening). t.opening.ports) one.2 ∙ sym (told.each table (subst (λ n. table < n) laid.count inside))
+        ap (λ (t : Terms TableOpening). t.opening.ports) one.2.terms_are ∙ sym (told.each table (subst (λ n. table < n) laid.count inside))
 
     port_at : (table : ℕ) (here : TableView) → slice_get begun.room.tables.items table ≡ Some here → (port num : ℕ) → Contains (sources_of here.1.opening port) num
         → (one : Member J P) × (slice_get begun.room.members.items port ≡ Some one) × Writes terms exports rules one table port
@@ -123,9 +123,9 @@ module _ {J P : Type 0} (terms : P → PhaseTerms) (exports : P → ℕ → Expo
   )
 
 module _ {J : Type 0} (verdict : J → Net → Route → Verdict) (phase : PhaseTerms) (exports : ℕ → Exports) (standing : Standing J) (stands : Stands verdict phase exports standing) where
-  pub can_enter_all : (cells actors : ℕ) (opened : Opened) (before : List (Vec JEntry Global)) → AreTablesOpen phase.setup cells standing.members.items actors standing.tables.items opened before
+  pub can_enter_all : (actors : ℕ) (opened : Opened) (before : List (Vec JEntry Global)) → AreTablesOpen phase.setup standing.members.items actors standing.tables.items opened before
       → CanEnterAll verdict phase exports standing.tables.items opened.tables.items before opened.cursors.items opened.ports.items standing.members.items
-  can_enter_all cells actors opened before open_tables = record {
+  can_enter_all actors opened before open_tables = record {
     laid = record {
       count = stands.tables.count;
       tables_are = open_tables.tables;
@@ -140,5 +140,5 @@ module _ {J : Type 0} (verdict : J → Net → Route → Verdict) (phase : Phase
     cursors_count = open_tables.can.counts.cursors_are;
   }
 
-  pub counts_are : (cells cursors : ℕ) → cells ≡ phase.setup.cells → cursors ≡ length (channels phase.setup) → AreCounts phase.setup cells cursors standing.members.items
-  counts_are cells cursors same many = record { cells_are = same; cursors_are = many; ports_are = ports_are verdict phase exports standing stands }
+  pub counts_are : (cursors : ℕ) → cursors ≡ length (channels phase.setup) → AreCounts phase.setup cursors standing.members.items
+  counts_are cursors many = record { cursors_are = many; ports_are = ports_are verdict phase exports standing stands }

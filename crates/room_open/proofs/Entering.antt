@@ -22,7 +22,7 @@ use Rattle.phase_open.specs.Standing.{AreStandingChannels, IsStandingChannel, Is
 use Rattle.phase_open.specs.declared.standing.StandingChannel.{StandingChannel}
 use Rattle.phase_open.specs.declared.standing.StandingProtocol.{StandingProtocol}
 use Rattle.phase_open.specs.declared.standing.StandingTable.{StandingTable}
-use Rattle.phase_pipes.specs.Ports.{joined_terms}
+use Rattle.phase_pipes.specs.Ports.{IsJoined, joined_opening}
 use Rattle.phase_room.specs.Entering.{IsNewChannel, IsNewSession, StandsIn}
 use Rattle.phase_room.specs.Opened.{IsCursorOf}
 use Rattle.phase_room.specs.Parts.{IsChannelPart}
@@ -44,7 +44,7 @@ module _ (phase : PhaseTerms) (stood : List StandingTable) (tables : List TableV
   table_here = other_here (IsOpenTable phase) stood tables laid.tables_are table one at
 
   pub table_begins : BeginsTable (table_stood one) table_here.0.1
-  table_begins = subst (BeginsTable (table_stood one)) (sym table_here.2) (record { start = refl; family = refl; rows = refl })
+  table_begins = subst (BeginsTable (table_stood one)) (sym table_here.2.terms_are) (record { start = refl; family = refl; rows = refl })
 
   pub table_within : table < length tables
   table_within = get_within tables table table_here.0 table_here.1
@@ -77,11 +77,11 @@ module _ {J : Type 0} (verdict : J → Net → Route → Verdict) (phase : Phase
   abbrev pub home : (here : TableView) × (slice_get tables held.table ≡ Some here) × IsOpenTable phase held.table is.stood here
   home = table_here phase stood tables before can.laid held.table is.stood is.stood_is
 
-  pub here_begins : home.0.1 ≡ joined_terms phase.setup is.source.table (table_stood is.stood)
-  here_begins = home.2 ∙ ap (λ n. joined_terms phase.setup n (table_stood is.stood)) is.table_is
+  pub here_begins : IsJoined phase.setup is.source.table (table_stood is.stood) home.0.1
+  here_begins = subst (λ n. IsJoined phase.setup n (table_stood is.stood) home.0.1) is.table_is home.2
 
   -- by the law of ports of protocols
-  module _ (law : (setup : Setup) (number : ℕ) (protocol : Protocol) (source : Source) (stood : TableTerms) → IsSetup setup → protocol_at setup number ≡ Some protocol → protocol.body ≡ IsSource source → IsOwnPort number (joined_terms setup source.table stood).opening) where
+  module _ (law : (setup : Setup) (number : ℕ) (protocol : Protocol) (source : Source) (stood : TableTerms) → IsSetup setup → protocol_at setup number ≡ Some protocol → protocol.body ≡ IsSource source → IsOwnPort number (joined_opening setup source.table stood)) where
     abbrev pub stands_in : StandsIn verdict phase tables number held.table held.importer
     stands_in = record {
       source = is.source;
@@ -90,7 +90,7 @@ module _ {J : Type 0} (verdict : J → Net → Route → Verdict) (phase : Phase
       here_is = home.1;
       stood = table_stood is.stood;
       begins = table_begins phase stood tables before can.laid held.table is.stood is.stood_is;
-      own_port = subst (λ (t : Terms TableOpening). IsOwnPort number t.opening) (sym here_begins) (law phase.setup number is.stands.protocol is.source (table_stood is.stood) is.stands.setup is.stands.protocol_is is.stands.body);
+      own_port = subst (λ (t : Terms TableOpening). IsOwnPort number t.opening) (sym here_begins.terms_are) (law phase.setup number is.stands.protocol is.source (table_stood is.stood) is.stands.setup is.stands.protocol_is is.stands.body);
       stands = is.stands;
     }
 
@@ -126,10 +126,10 @@ module _ {J : Type 0} (verdict : J → Net → Route → Verdict) (phase : Phase
             cursor = ap journal made.cursor_is ∙ cursor_is.0;
             unread = ap (λ z. front z.1) made.cursor_is ∙ cursor_is.2;
             mode = made.mode ∙ sym (ap (λ (z : State J). is_open z.log) made.exporter);
-            position = λ up. ap (λ z. position_of z.1.role) made.cursor_is ∙ cursor_is.3 ∙ ap (λ z. z.start) home.2;
+            position = λ up. ap (λ z. position_of z.1.role) made.cursor_is ∙ cursor_is.3 ∙ ap (λ z. z.start) home.2.terms_are;
           }
 
-      module _ (law : (setup : Setup) (number : ℕ) (protocol : Protocol) (source : Source) (stood : TableTerms) → IsSetup setup → protocol_at setup number ≡ Some protocol → protocol.body ≡ IsSource source → IsOwnPort number (joined_terms setup source.table stood).opening) where
+      module _ (law : (setup : Setup) (number : ℕ) (protocol : Protocol) (source : Source) (stood : TableTerms) → IsSetup setup → protocol_at setup number ≡ Some protocol → protocol.body ≡ IsSource source → IsOwnPort number (joined_opening setup source.table stood)) where
         pub can_enter : (entries : Vec JEntry Global) → slice_get before held.table ≡ Some entries → (part : ChannelPart J) → IsOpenPart channel cursor part
             → (protocol : StandsIn verdict phase tables number held.table held.importer) × (protocol.stood.before ≡ entries.items) × IsChannelPart verdict phase protocol.stood protocol.here exports number part
         can_enter entries at part made = (stands_in law, ap (λ (z : Vec JEntry Global). z.items) (sym (own_entries entries at)), part_is part made)

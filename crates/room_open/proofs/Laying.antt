@@ -44,27 +44,26 @@ terms_made start cells cursors makers stood ports =
     record { start = start; cells = cells; cursors = cursors; makers = makers; opening = record { family = stood.family; rows = stood.rows; ports = ports } }
 
 module _ {J : Type 0} (setup : Setup) (members : List (StandingMember J)) where
-  pub terms_are : (number start cells cursors makers : ℕ) (stood : TableTerms) (ports : List (List ℕ)) → AreCounts setup cells cursors members → number < length setup.tables → start ≡ length stood.before → makers ≡ length members → ports ≡ lists_from number 0 members
-      → terms_made start cells cursors makers stood ports ≡ joined_terms setup number stood
+  pub terms_are : (number start cells cursors makers : ℕ) (stood : TableTerms) (ports : List (List ℕ)) → AreCounts setup cursors members → number < length setup.tables → start ≡ length stood.before → makers ≡ length members → ports ≡ lists_from number 0 members
+      → terms_made start cells cursors makers stood ports ≡ joined_terms cells setup number stood
   terms_are number start cells cursors makers stood ports are there begins many all =
       ap (λ z. terms_made z cells cursors makers stood ports) begins
-      ∙ ap (λ z. terms_made (length stood.before) z cursors makers stood ports) are.cells_are
-      ∙ ap (λ z. terms_made (length stood.before) setup.cells z makers stood ports) are.cursors_are
-      ∙ ap (λ z. terms_made (length stood.before) setup.cells (length (channels setup)) z stood ports) (many ∙ are.ports_are.count)
-      ∙ ap (terms_made (length stood.before) setup.cells (length (channels setup)) (length setup.protocols) stood) (all ∙ are.ports_are.each number there)
+      ∙ ap (λ z. terms_made (length stood.before) cells z makers stood ports) are.cursors_are
+      ∙ ap (λ z. terms_made (length stood.before) cells (length (channels setup)) z stood ports) (many ∙ are.ports_are.count)
+      ∙ ap (terms_made (length stood.before) cells (length (channels setup)) (length setup.protocols) stood) (all ∙ are.ports_are.each number there)
 
-module _ {J : Type 0} (setup : Setup) (cells : ℕ) (members : List (StandingMember J)) (actors : ℕ) where
-  pub none_open : (opened : Opened) (before : List (Vec JEntry Global)) (channels : ℕ) → AreCounts setup cells channels members → AreOpened opened → opened.tables.items ≡ [] → length opened.ports.items ≡ length members → length opened.cursors.items ≡ channels → length opened.passes.items ≡ actors → before ≡ []
-      → AreTablesOpen setup cells members actors [] opened before
+module _ {J : Type 0} (setup : Setup) (members : List (StandingMember J)) (actors : ℕ) where
+  pub none_open : (opened : Opened) (before : List (Vec JEntry Global)) (channels : ℕ) → AreCounts setup channels members → AreOpened opened → opened.tables.items ≡ [] → length opened.ports.items ≡ length members → length opened.cursors.items ≡ channels → length opened.passes.items ≡ actors → before ≡ []
+      → AreTablesOpen setup members actors [] opened before
   none_open opened before channels counts is none ports cursors passes empty = record {
-    can = record { opened_is = is; counts = subst (λ n. AreCounts setup cells n members) (sym cursors) counts; ports = ports };
+    can = record { opened_is = is; counts = subst (λ n. AreCounts setup n members) (sym cursors) counts; ports = ports };
     passes = passes;
     tables = subst (λ z. Pairs (BeginsTable setup) 0 [] z) (sym none) tt;
     before_is = empty;
   }
 
-  pub one_open : (done : List StandingTable) (stood : StandingTable) (old new : Opened) (before more : List (Vec JEntry Global)) → AreTablesOpen setup cells members actors done old before → IsTableMore setup cells members (table_stood stood) old new → more ≡ before ++ stood.before ∷ []
-      → AreTablesOpen setup cells members actors (done ++ stood ∷ []) new more
+  pub one_open : (done : List StandingTable) (stood : StandingTable) (old new : Opened) (before more : List (Vec JEntry Global)) → AreTablesOpen setup members actors done old before → IsTableMore setup members (table_stood stood) old new → more ≡ before ++ stood.before ∷ []
+      → AreTablesOpen setup members actors (done ++ stood ∷ []) new more
   one_open done stood old new before more are m pushed = record {
     can = m.can;
     passes = m.passes ∙ are.passes;

@@ -24,7 +24,7 @@ use Rattle.phase_open.specs.Standing.{table_stood}
 use Rattle.phase_open.specs.declared.standing.StandingChannel.{StandingChannel}
 use Rattle.phase_open.specs.declared.standing.StandingTable.{StandingTable}
 use Rattle.phase_pipes.specs.Parts.{ArePipeParts, IsDirectionPart, TableFound}
-use Rattle.phase_pipes.specs.Ports.{EntersAlone, joined_terms}
+use Rattle.phase_pipes.specs.Ports.{EntersAlone, IsJoined, joined_opening}
 use Rattle.phase_pipes.specs.Sessions.{IsNewLane, IsNewPipe, back_terms, out_terms}
 use Rattle.phase_pipes.specs.Stands.{IsDirectionOf, StandsDirection}
 use Rattle.phase_pipes.specs.declared.parts.DirectionPart.{DirectionPart}
@@ -45,8 +45,8 @@ use Rattle.room_open.proofs.Entering.{before_within, entries_are, table_begins, 
 -- ---- a direction
 
 module _ {J : Type 0} (verdict : J → Net → Route → Verdict) (phase : PhaseTerms) (exports : ℕ → Exports) (number reads writes : ℕ) (read written : TableFound) (held : StandingChannel J) (d : IsStandingDirection verdict phase exports number reads writes read.stood written.stood held) where
-  pub direction_part : StandsTable read.stood → written.here.1 ≡ joined_terms phase.setup writes written.stood
-      → EntersAlone (rules_of phase.setup) held.number (joined_terms phase.setup writes written.stood).opening number
+  pub direction_part : StandsTable read.stood → IsJoined phase.setup writes written.stood written.here.1
+      → EntersAlone (rules_of phase.setup) held.number (joined_opening phase.setup writes written.stood) number
       → (cursor : CursorView) → IsCursorOf held.number read.here cursor → (port : PortView) → IsPortOf number written.here port
       → (part : DirectionPart J) → IsOpenDirection held cursor port part → IsDirectionPart verdict phase exports number read written part
   direction_part begun begins alone cursor cursor_is port port_is part made = record {
@@ -62,7 +62,7 @@ module _ {J : Type 0} (verdict : J → Net → Route → Verdict) (phase : Phase
     port_number = ap (λ (z : PortView). number_of z.1.role) made.port_is ∙ port_is.1;
     unmade = ap (λ (z : PortView). own z.1) made.port_is ∙ port_is.2;
     enters = subst (λ n. EntersAlone (rules_of phase.setup) n written.here.1.opening number) (sym made.number)
-        (subst (λ (t : Terms TableOpening). EntersAlone (rules_of phase.setup) held.number t.opening number) (sym begins) alone);
+        (subst (λ (t : Terms TableOpening). EntersAlone (rules_of phase.setup) held.number t.opening number) (sym begins.terms_are) alone);
   }
 
 -- ---- both
@@ -99,11 +99,11 @@ module _ {J : Type 0} (verdict : J → Net → Route → Verdict) (phase : Phase
   abbrev pub peer_found : TableFound
   peer_found = record { stood = table_stood pipe_is.peer; here = peer_here.0; begins = table_begins phase stood tables before can.laid held.peer pipe_is.peer pipe_is.peer_at }
 
-  primary_begins : primary_here.0.1 ≡ joined_terms phase.setup pipe_is.pipe.primary (table_stood pipe_is.primary)
-  primary_begins = primary_here.2 ∙ ap (λ n. joined_terms phase.setup n (table_stood pipe_is.primary)) pipe_is.primary_is
+  primary_begins : IsJoined phase.setup pipe_is.pipe.primary (table_stood pipe_is.primary) primary_here.0.1
+  primary_begins = subst (λ n. IsJoined phase.setup n (table_stood pipe_is.primary) primary_here.0.1) pipe_is.primary_is primary_here.2
 
-  peer_begins : peer_here.0.1 ≡ joined_terms phase.setup pipe_is.pipe.peer (table_stood pipe_is.peer)
-  peer_begins = peer_here.2 ∙ ap (λ n. joined_terms phase.setup n (table_stood pipe_is.peer)) pipe_is.peer_is
+  peer_begins : IsJoined phase.setup pipe_is.pipe.peer (table_stood pipe_is.peer) peer_here.0.1
+  peer_begins = subst (λ n. IsJoined phase.setup n (table_stood pipe_is.peer) peer_here.0.1) pipe_is.peer_is peer_here.2
 
   pub primary_within : held.primary < length tables
   primary_within = table_within phase stood tables before can.laid held.primary pipe_is.primary pipe_is.primary_at
@@ -149,8 +149,8 @@ module _ {J : Type 0} (verdict : J → Net → Route → Verdict) (phase : Phase
 
   -- ---- its parts, by the law of ports of directions
 
-  module _ (law_out : (setup : Setup) (number out back : ℕ) (protocol : Protocol) (pipe : PlayedPipe) (stood : TableTerms) → IsSetup setup → protocol_at setup number ≡ Some protocol → protocol.body ≡ IsPipe pipe → (rules_of setup).belong number ≡ out ∷ back ∷ [] → IsDirectionOf setup number out pipe.primary pipe.peer → IsDirectionOf setup number back pipe.peer pipe.primary → EntersAlone (rules_of setup) out (joined_terms setup pipe.peer stood).opening number)
-      (law_back : (setup : Setup) (number out back : ℕ) (protocol : Protocol) (pipe : PlayedPipe) (stood : TableTerms) → IsSetup setup → protocol_at setup number ≡ Some protocol → protocol.body ≡ IsPipe pipe → (rules_of setup).belong number ≡ out ∷ back ∷ [] → IsDirectionOf setup number out pipe.primary pipe.peer → IsDirectionOf setup number back pipe.peer pipe.primary → EntersAlone (rules_of setup) back (joined_terms setup pipe.primary stood).opening number)
+  module _ (law_out : (setup : Setup) (number out back : ℕ) (protocol : Protocol) (pipe : PlayedPipe) (stood : TableTerms) → IsSetup setup → protocol_at setup number ≡ Some protocol → protocol.body ≡ IsPipe pipe → (rules_of setup).belong number ≡ out ∷ back ∷ [] → IsDirectionOf setup number out pipe.primary pipe.peer → IsDirectionOf setup number back pipe.peer pipe.primary → EntersAlone (rules_of setup) out (joined_opening setup pipe.peer stood) number)
+      (law_back : (setup : Setup) (number out back : ℕ) (protocol : Protocol) (pipe : PlayedPipe) (stood : TableTerms) → IsSetup setup → protocol_at setup number ≡ Some protocol → protocol.body ≡ IsPipe pipe → (rules_of setup).belong number ≡ out ∷ back ∷ [] → IsDirectionOf setup number out pipe.primary pipe.peer → IsDirectionOf setup number back pipe.peer pipe.primary → EntersAlone (rules_of setup) back (joined_opening setup pipe.primary stood) number)
       (ports : List PortView) (are : AreBeside (IsPortOf number) tables ports) (there here : PortView) (there_at : slice_get ports held.peer ≡ Some there) (here_at : slice_get ports held.primary ≡ Some here)
       (reader other : CursorView) (reader_is : IsCursorOf held.out.number primary_here.0 reader) (other_is : IsCursorOf held.back.number peer_here.0 other)
       (out back : DirectionPart J) (out_made : IsOpenDirection held.out reader there out) (back_made : IsOpenDirection held.back other here back) where

@@ -25,7 +25,7 @@ use Rattle.phase_legal.specs.Shown.{AreBeside, HandView, PassView}
 use Rattle.phase_open.specs.Standing.{table_stood}
 use Rattle.phase_open.specs.declared.standing.StandingChannel.{StandingChannel}
 use Rattle.phase_open.specs.declared.standing.StandingTable.{StandingTable}
-use Rattle.phase_pipes.specs.Ports.{joined_terms}
+use Rattle.phase_pipes.specs.Ports.{IsJoined}
 use Rattle.phase_pipes.specs.declared.parts.DirectionPart.{DirectionPart}
 use Rattle.phase_room.specs.Opened.{AreOfEach, AreOpened, IsCursorOf, IsPortOf}
 use Rattle.phase_room.specs.Rooms.{TableTerms}
@@ -54,34 +54,34 @@ CursorView = (TableId × Seat TableOpening) × Bool
 
 -- what is opened has a list for each protocol and channel of what is played
 pub record CanOpen
-    {J : Type 0} (setup : Setup) (cells : ℕ) (members : List (StandingMember J))
-    (opened : Opened) : Type 0 where
+    {J : Type 0} (setup : Setup) (members : List (StandingMember J)) (opened : Opened)
+    : Type 0 where
   pub opened_is : AreOpened opened
-  pub counts : AreCounts setup cells (length opened.cursors.items) members
+  pub counts : AreCounts setup (length opened.cursors.items) members
   pub ports : length opened.ports.items ≡ length members
 
 -- there is one table more, with what stood in it
 pub record IsTableMore
-    {J : Type 0} (setup : Setup) (cells : ℕ) (members : List (StandingMember J))
-    (stood : TableTerms) (old new : Opened) : Type 0 where
-  pub can : CanOpen setup cells members new
+    {J : Type 0} (setup : Setup) (members : List (StandingMember J)) (stood : TableTerms)
+    (old new : Opened) : Type 0 where
+  pub can : CanOpen setup members new
   pub passes : length new.passes.items ≡ length old.passes.items
   pub table : TableView
   pub tables : new.tables.items ≡ old.tables.items ++ table ∷ []
-  pub terms : table.1 ≡ joined_terms setup (length old.tables.items) stood
+  pub terms : IsJoined setup (length old.tables.items) stood table.1
 
 -- the table of a number begins with what stood
 abbrev pub BeginsTable : Setup → ℕ → StandingTable → TableView → Type 0
-BeginsTable setup number stood here = here.1 ≡ joined_terms setup number (table_stood stood)
+BeginsTable setup number stood here = IsJoined setup number (table_stood stood) here.1
 
 abbrev pub lists_before : List StandingTable → List (Vec JEntry Global)
 lists_before stood = map (λ (table : StandingTable). table.before) stood
 
 pub record AreTablesOpen
-    {J : Type 0} (setup : Setup) (cells : ℕ) (members : List (StandingMember J)) (actors : ℕ)
+    {J : Type 0} (setup : Setup) (members : List (StandingMember J)) (actors : ℕ)
     (stood : List StandingTable) (opened : Opened) (before : List (Vec JEntry Global))
     : Type 0 where
-  pub can : CanOpen setup cells members opened
+  pub can : CanOpen setup members opened
   pub passes : length opened.passes.items ≡ actors
   pub tables : Pairs (BeginsTable setup) 0 stood opened.tables.items
   pub before_is : before ≡ lists_before stood

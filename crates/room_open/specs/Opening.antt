@@ -20,7 +20,7 @@ use Rattle.phase_open.specs.Opening.{IsOpenChannel, IsOpenSession}
 use Rattle.phase_open.specs.Standing.{table_stood}
 use Rattle.phase_open.specs.declared.standing.StandingChannel.{StandingChannel}
 use Rattle.phase_open.specs.declared.standing.StandingTable.{StandingTable}
-use Rattle.phase_pipes.specs.Ports.{joined_terms}
+use Rattle.phase_pipes.specs.Ports.{IsJoined}
 use Rattle.phase_pipes.specs.Sessions.{back_terms, out_terms, pipe_terms}
 use Rattle.phase_pipes.specs.declared.session.PipeSession.{PipeSession}
 use Rattle.phase_room.specs.Begun.{IsNewHand}
@@ -37,7 +37,7 @@ use Rattle.room_open.specs.declared.standing.StandingPipe.{StandingPipe}
 
 -- the journal of the table of a number begins with what stood
 abbrev pub IsOpenTable : PhaseTerms → ℕ → StandingTable → TableId × Terms TableOpening → Type 0
-IsOpenTable phase number stood here = here.1 ≡ joined_terms phase.setup number (table_stood stood)
+IsOpenTable phase number stood here = IsJoined phase.setup number (table_stood stood) here.1
 
 module _ {J P : Type 0} (terms : P → PhaseTerms) (exports : P → ℕ → Exports) (rules : P → Rules)
     (played : P) (tables : List StandingTable) where

@@ -31,11 +31,9 @@ pub record ArePorts {J : Type 0} (setup : Setup) (members : List (StandingMember
       (table : ℕ) → table < length setup.tables
       → lists_from table 0 members ≡ ports_with_pipes setup table
 
--- How many cells and cursors the journal of each table has, and the sources of its ports, are a
--- setup's.
+-- How many cursors the journal of each table has, and the sources of its ports, are a setup's.
 pub record AreCounts
-    {J : Type 0} (setup : Setup) (cells cursors : ℕ) (members : List (StandingMember J))
+    {J : Type 0} (setup : Setup) (cursors : ℕ) (members : List (StandingMember J))
     : Type 0 where
-  pub cells_are : cells ≡ setup.cells
   pub cursors_are : cursors ≡ length (channels setup)
   pub ports_are : ArePorts setup members

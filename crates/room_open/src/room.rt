@@ -124,8 +124,7 @@ pub fn open_room<J: Judge + Drop, P: Phase + Sends>(
     requires stands { Stands J.verdict (P.terms played.now) (P.exports played.now) standing }
     requires sources { AreSourcesOf (P.terms played.now).setup sources.items }
     requires rules { P.rules played.now ≡ rules_of (P.terms played.now).setup }
-    requires cells { (cells ≡ (P.terms played.now).setup.cells) × (0 < cells)
-        × (cells ≤ 4096) }
+    requires cells { (0 < cells) × (cells ≤ 4096) }
     requires channels { (channels ≡ length (channels_of (P.terms played.now).setup))
         × (channels ≤ 512) }
     requires actors { (actors ≡ (P.terms played.now).starter) × (actors + 1 ≤ 1024) }

@@ -6,7 +6,7 @@ ghost use Rattle.core_setup.specs.Setup.{Setup};
 ghost use Rattle.jour.specs.Seats.{AreCursors, AreMakers, AreUnread, journal};
 ghost use Rattle.phase_legal.specs.Shown.{AreBeside};
 ghost use Rattle.phase_open.specs.Standing.{IsStandingTable, table_stood};
-ghost use Rattle.phase_pipes.specs.Ports.{joined_terms};
+ghost use Rattle.phase_pipes.specs.Ports.{IsJoined};
 ghost use Rattle.room_open.specs.Laid.{AreTablesOpen, CanOpen, IsTableMore};
 ghost use Rattle.room_open.specs.Sources.{AreCounts};
 
@@ -37,12 +37,12 @@ fn begin_table<J: Judge>(
     requires cursors { cursors ≤ 512 }
     requires members { length members.now ≤ 1024 }
     requires rows { (rows.family ≡ family) × AreRows rows.rows × AreOfFamily family rows.rows }
-    ensures terms { IfOk result (λ made. (setup : Setup) → AreCounts setup cells cursors members.now
-        → number < length setup.tables → made.0.1 ≡ joined_terms setup number record {
+    ensures terms { IfOk result (λ made. (setup : Setup) → AreCounts setup cursors members.now
+        → number < length setup.tables → IsJoined setup number record {
           family = family;
           rows = rows.rows;
           before = before.now.items;
-        }) }
+        } made.0.1) }
     ensures start { IfOk result (λ made. made.0.1.start ≡ length before.now.items) }
     ensures ports { IfOk result (λ made. (vec_len made.1 ≡ length members.now)
         × AreMakers made.0 made.1.items) }
@@ -76,11 +76,11 @@ fn add_table<J: Judge>(
     requires cells { (0 < cells) × (cells ≤ 4096) }
     requires few { (length members.now ≤ 1024) × (length opened.old.cursors.items ≤ 512)
         × (length opened.old.tables.items < 2 ^ 32) }
-    requires can { (setup : Setup) × CanOpen setup cells members.now opened.old }
+    requires can { (setup : Setup) × CanOpen setup members.now opened.old }
     requires rows { (rows.family ≡ family) × AreRows rows.rows × AreOfFamily family rows.rows }
-    ensures { OnOk result ((setup : Setup) → CanOpen setup cells members.now opened.old
+    ensures { OnOk result ((setup : Setup) → CanOpen setup members.now opened.old
         → length opened.old.tables.items < length setup.tables
-        → IsTableMore setup cells members.now
+        → IsTableMore setup members.now
         record { family = family; rows = rows.rows; before = entries.now.items }
         opened.old opened.new) }
 {
@@ -106,12 +106,12 @@ fn open_next<J: Judge>(
     requires cells { (0 < cells) × (cells ≤ 4096) }
     requires few { (length members.now ≤ 1024) × (length opened.old.cursors.items ≤ 512)
         × (length opened.old.tables.items < 2 ^ 32) }
-    requires can { (setup : Setup) × CanOpen setup cells members.now opened.old }
+    requires can { (setup : Setup) × CanOpen setup members.now opened.old }
     requires rows { (stood.rows.family ≡ stood.family) × AreRows stood.rows.rows
         × AreOfFamily stood.family stood.rows.rows }
-    ensures opened { OnOk result ((setup : Setup) → CanOpen setup cells members.now opened.old
+    ensures opened { OnOk result ((setup : Setup) → CanOpen setup members.now opened.old
         → length opened.old.tables.items < length setup.tables
-        → IsTableMore setup cells members.now (table_stood stood) opened.old opened.new) }
+        → IsTableMore setup members.now (table_stood stood) opened.old opened.new) }
     ensures before { OnOk result (before.new.items ≡ before.old.items ++ stood.before ∷ []) }
 {
     let StandingTable {
@@ -138,12 +138,12 @@ pub fn open_tables<J: Judge>(
     requires cells { (0 < cells) × (cells ≤ 4096) }
     requires few { (length members.now ≤ 1024) × (channels ≤ 512)
         × (length tables.items < 2 ^ 32) }
-    requires stands { (setup : Setup) × AreCounts setup cells channels members.now
+    requires stands { (setup : Setup) × AreCounts setup channels members.now
         × AreBeside IsStandingTable setup.tables tables.items }
     requires none { before.old.items ≡ [] }
-    ensures { IfOk result (λ opened. (setup : Setup) → AreCounts setup cells channels members.now
+    ensures { IfOk result (λ opened. (setup : Setup) → AreCounts setup channels members.now
         → length tables.items ≡ length setup.tables
-        → AreTablesOpen setup cells members.now actors tables.items opened before.new.items) }
+        → AreTablesOpen setup members.now actors tables.items opened before.new.items) }
 {
     let mut opened = Opened::none(alloc, members.len(), channels as usize, actors)?;
     for stood in tables {

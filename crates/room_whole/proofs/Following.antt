@@ -102,7 +102,7 @@ module _ {J P : Type 0} (g : Given J P) where
     all_end =
         let count = as_many here.1.opening (at_first here.1.opening) (entries_of g t) (said_of g t) of.records in
         let both = length-append of.stood.before.items (said_of g t) in
-        let start = ap (λ z. z.start) of.begins in
+        let start = ap (λ z. z.start) of.begins.terms_are in
         omega (arith, count, both, start)
 
   -- the position of a table's last entry, as its list tells

@@ -21,7 +21,7 @@ use Rattle.table_shared.specs.Records.{AreRecords, at_first, change_of, content_
 use Rattle.table_shared.specs.declared.close.Phase.{Phase}
 use Rattle.table_shared.proofs.Records.{after_both, as_many}
 use Rattle.export_lock.proofs.Told.{AllTell, tells_on}
-use Rattle.phase_pipes.specs.Ports.{joined_terms}
+use Rattle.phase_pipes.specs.Ports.{IsJoined}
 use Rattle.phase_room.specs.Stands.{StandsTable}
 use Rattle.phase_open.specs.Standing.{IsStandingTable, table_stood}
 use Rattle.phase_open.specs.declared.standing.StandingTable.{StandingTable}
@@ -48,18 +48,18 @@ history_content entries = ap (after empty) (reverse-reverse (map change_of entri
 pub history_length : (entries : List JEntry) → length (reverse (map change_of entries)) ≡ length entries
 history_length entries = length-reverse (map change_of entries) ∙ length-map entries change_of
 
-module _ (setup : Setup) (number : ℕ) (old : StandingTable) (here : TableId × Terms TableOpening) (begins : here.1 ≡ joined_terms setup number (table_stood old)) (stood : StandsTable (table_stood old)) where
+module _ (setup : Setup) (number : ℕ) (old : StandingTable) (here : TableId × Terms TableOpening) (begins : IsJoined setup number (table_stood old) here.1) (stood : StandsTable (table_stood old)) where
   pub family_is : here.1.opening.family ≡ old.family
-  family_is = ap (λ (z : Terms TableOpening). z.opening.family) begins
+  family_is = ap (λ (z : Terms TableOpening). z.opening.family) begins.terms_are
 
   pub start_is : here.1.start ≡ length old.before.items
-  start_is = ap (λ (z : Terms TableOpening). z.start) begins
+  start_is = ap (λ (z : Terms TableOpening). z.start) begins.terms_are
 
   -- the table begins with what its entries so far leave
   pub began : at_first here.1.opening ≡ after empty (map change_of old.before.items)
   began =
       let rows : route_in old.rows.rows ≡ after empty (map change_of old.before.items) = λ i net num. stood.rows net num i in
-      ap (λ (z : Terms TableOpening). at_first z.opening) begins ∙ rows
+      ap (λ (z : Terms TableOpening). at_first z.opening) begins.terms_are ∙ rows
 
   pub tells_all : (es : List Entry) (said : List JEntry) → AreRecords here.1.opening (at_first here.1.opening) es said → TellsBest (old.before.items ++ said)
   tells_all es said are = tells_on old.before.items said (at_first here.1.opening) began stood.told (all_tell here.1.opening (at_first here.1.opening) es said are)

@@ -50,7 +50,7 @@ module _ {J P : Type 0} (verdict : J → Net → Route → Verdict) (terms : P �
           let inside = get_within (terms played).setup.tables i table table_at in
           let count = stands.tables.count in
           let stood = get_here standing.tables.items i (omega (arith, inside, count)) in
-          ap (λ (t : Terms TableOpening). t.opening.family) (opens.tables_are i stood.0 here stood.1 here_at) ∙ (stands.tables.each i table stood.0 table_at stood.1).family
+          ap (λ (t : Terms TableOpening). t.opening.family) (opens.tables_are i stood.0 here stood.1 here_at).terms_are ∙ (stands.tables.each i table stood.0 table_at stood.1).family
 
   has_all : HasAll terms opening.room
   has_all = record {

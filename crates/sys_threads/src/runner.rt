@@ -1,5 +1,5 @@
 //! The runner.
-ghost use Rattle.std.specs.Prelude.{◌≡◌, ◌<◌, ◌++◌, ◌∷◌, ℕ, [], List, IfOk, length};
+ghost use Rattle.std.specs.Prelude.{◌≡◌, ◌<◌, ◌≤◌, ◌++◌, ◌∷◌, ℕ, [], List, IfOk, length};
 ghost use Rattle.std.specs.List.{All};
 ghost use Rattle.core_machine.specs.Lines.{Line as MachineLine};
 ghost use Rattle.core_setup.specs.Channels.{channels as channels_of};
@@ -50,6 +50,10 @@ use std::hash::RandomState;
 use std::snapshot::Snapshot;
 use std::sync::Wait;
 use std::thread::Threads;
+
+/// The journals of a phase have so many cells in any case, where these were asked for: an operation
+/// of one line may change many nets.
+const FEWEST_CELLS: usize = 64;
 
 /// Runs a script phase by phase: what stands between two phases, and what is left of those before.
 #[derive(Drop)]
@@ -213,6 +217,16 @@ fn play_opened<
     Ok(made)
 }
 
+/// How many cells the journals of a phase have, of those that were asked for: a phase of few lines
+/// takes no more memory than these may fill.
+fn journal_cells(asked: u32, lines: usize) -> u32
+    requires { 0 < asked }
+    ensures some { 0 < result }
+    ensures most { result ≤ asked }
+{
+    lines.max(FEWEST_CELLS).min(asked as usize) as u32
+}
+
 /// Opens the room of a phase, and plays it.
 fn play_phase<'p, R: Threads + Wait + Sync, G: Gate + Sync, J: Judge + Drop + Sync>(
     alloc: Global,
@@ -247,7 +261,7 @@ fn play_phase<'p, R: Threads + Wait + Sync, G: Gate + Sync, J: Judge + Drop + Sy
         alloc,
         playing,
         sources,
-        parts.cells,
+        journal_cells(parts.cells, lines.len()),
         playing.actors,
         channels,
         standing,

@@ -16,4 +16,4 @@ returns-clause-own c = λ setup number protocol source stood is here body.
     record { mine = own_mine setup is are number protocol source stood here body; alone = own_alone setup is are number protocol source stood here body }
 
 pub returns-clause-begins : goal.returns-clause-begins
-returns-clause-begins c = λ setup number stood. record { start = refl; family = refl; rows = refl }
+returns-clause-begins c = λ cells setup number stood. record { start = refl; family = refl; rows = refl }

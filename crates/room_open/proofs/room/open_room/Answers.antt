@@ -16,19 +16,19 @@ open_tables-requires-clause-stands g c =
     let phase = g.P.Phase.terms c.args.played.now in
     let exports = g.P.Sends.exports c.args.played.now in
     let standing = c.args.standing in
-    let counts = counts_are g.J.Judge.verdict phase exports standing c.requires.stands c.args.cells c.args.channels c.requires.cells.0 c.requires.channels.0 in
-    (phase.setup, subst (AreCounts phase.setup c.args.cells c.args.channels) (sym c.deref.ensures.value) counts, c.requires.stands.tables)
+    let counts = counts_are g.J.Judge.verdict phase exports standing c.requires.stands c.args.channels c.requires.channels.0 in
+    (phase.setup, subst (AreCounts phase.setup c.args.channels) (sym c.deref.ensures.value) counts, c.requires.stands.tables)
 
 pub fill-requires-clause-actors : goal.fill-requires-clause-actors
 fill-requires-clause-actors g c =
     let phase = g.P.Phase.terms c.args.played.now in
     let exports = g.P.Sends.exports c.args.played.now in
     let standing = c.args.standing in
-    let counts = counts_are g.J.Judge.verdict phase exports standing c.requires.stands c.args.cells c.args.channels c.requires.cells.0 c.requires.channels.0 in
+    let counts = counts_are g.J.Judge.verdict phase exports standing c.requires.stands c.args.channels c.requires.channels.0 in
     let opened = c.in_ok-opened.opened in
     let before = c.open_tables.new.before.items in
-    let opened_is = subst (λ z. AreTablesOpen phase.setup c.args.cells z (c.args.actors + 1) standing.tables.items opened before) c.deref.ensures.value
-    (c.in_ok-opened.ensures phase.setup (subst (AreCounts phase.setup c.args.cells c.args.channels) (sym c.deref.ensures.value) counts) c.requires.stands.tables.count) in
+    let opened_is = subst (λ z. AreTablesOpen phase.setup z (c.args.actors + 1) standing.tables.items opened before) c.deref.ensures.value
+    (c.in_ok-opened.ensures phase.setup (subst (AreCounts phase.setup c.args.channels) (sym c.deref.ensures.value) counts) c.requires.stands.tables.count) in
     (c.requires.actors.0, c.requires.actors.1, opened_is.passes)
 
 pub fill-requires-clause-passes : goal.fill-requires-clause-passes
@@ -36,11 +36,11 @@ fill-requires-clause-passes g c =
     let phase = g.P.Phase.terms c.args.played.now in
     let exports = g.P.Sends.exports c.args.played.now in
     let standing = c.args.standing in
-    let counts = counts_are g.J.Judge.verdict phase exports standing c.requires.stands c.args.cells c.args.channels c.requires.cells.0 c.requires.channels.0 in
+    let counts = counts_are g.J.Judge.verdict phase exports standing c.requires.stands c.args.channels c.requires.channels.0 in
     let opened = c.in_ok-opened.opened in
     let before = c.open_tables.new.before.items in
-    let opened_is = subst (λ z. AreTablesOpen phase.setup c.args.cells z (c.args.actors + 1) standing.tables.items opened before) c.deref.ensures.value
-    (c.in_ok-opened.ensures phase.setup (subst (AreCounts phase.setup c.args.cells c.args.channels) (sym c.deref.ensures.value) counts) c.requires.stands.tables.count) in
+    let opened_is = subst (λ z. AreTablesOpen phase.setup z (c.args.actors + 1) standing.tables.items opened before) c.deref.ensures.value
+    (c.in_ok-opened.ensures phase.setup (subst (AreCounts phase.setup c.args.channels) (sym c.deref.ensures.value) counts) c.requires.stands.tables.count) in
     opened_is.can.opened_is.passes
 
 pub fill-requires-clause-can : goal.fill-requires-clause-can
@@ -48,21 +48,21 @@ fill-requires-clause-can g c =
     let phase = g.P.Phase.terms c.args.played.now in
     let exports = g.P.Sends.exports c.args.played.now in
     let standing = c.args.standing in
-    let counts = counts_are g.J.Judge.verdict phase exports standing c.requires.stands c.args.cells c.args.channels c.requires.cells.0 c.requires.channels.0 in
+    let counts = counts_are g.J.Judge.verdict phase exports standing c.requires.stands c.args.channels c.requires.channels.0 in
     let opened = c.in_ok-opened.opened in
     let before = c.open_tables.new.before.items in
-    let opened_is = subst (λ z. AreTablesOpen phase.setup c.args.cells z (c.args.actors + 1) standing.tables.items opened before) c.deref.ensures.value
-    (c.in_ok-opened.ensures phase.setup (subst (AreCounts phase.setup c.args.cells c.args.channels) (sym c.deref.ensures.value) counts) c.requires.stands.tables.count) in
-    (standing.tables.items, can_enter_all g.J.Judge.verdict phase exports standing c.requires.stands c.args.cells (c.args.actors + 1) opened before opened_is)
+    let opened_is = subst (λ z. AreTablesOpen phase.setup z (c.args.actors + 1) standing.tables.items opened before) c.deref.ensures.value
+    (c.in_ok-opened.ensures phase.setup (subst (AreCounts phase.setup c.args.channels) (sym c.deref.ensures.value) counts) c.requires.stands.tables.count) in
+    (standing.tables.items, can_enter_all g.J.Judge.verdict phase exports standing c.requires.stands (c.args.actors + 1) opened before opened_is)
 
 pub returns : goal.returns
 returns g c =
     let phase = g.P.Phase.terms c.args.played.now in
     let exports = g.P.Sends.exports c.args.played.now in
     let standing = c.args.standing in
-    let counts = counts_are g.J.Judge.verdict phase exports standing c.requires.stands c.args.cells c.args.channels c.requires.cells.0 c.requires.channels.0 in
+    let counts = counts_are g.J.Judge.verdict phase exports standing c.requires.stands c.args.channels c.requires.channels.0 in
     let opened = c.in_ok-opened.opened in
     let before = c.open_tables.new.before.items in
-    let opened_is = subst (λ z. AreTablesOpen phase.setup c.args.cells z (c.args.actors + 1) standing.tables.items opened before) c.deref.ensures.value
-    (c.in_ok-opened.ensures phase.setup (subst (AreCounts phase.setup c.args.cells c.args.channels) (sym c.deref.ensures.value) counts) c.requires.stands.tables.count) in
-    IfOk-weaker c.fill.result _ _ (λ opening is. is standing.tables.items (can_enter_all g.J.Judge.verdict phase exports standing c.requires.stands c.args.cells (c.args.actors + 1) opened before opened_is)) c.fill.ensures
+    let opened_is = subst (λ z. AreTablesOpen phase.setup z (c.args.actors + 1) standing.tables.items opened before) c.deref.ensures.value
+    (c.in_ok-opened.ensures phase.setup (subst (AreCounts phase.setup c.args.channels) (sym c.deref.ensures.value) counts) c.requires.stands.tables.count) in
+    IfOk-weaker c.fill.result _ _ (λ opening is. is standing.tables.items (can_enter_all g.J.Judge.verdict phase exports standing c.requires.stands (c.args.actors + 1) opened before opened_is)) c.fill.ensures

@@ -1,6 +1,6 @@
 use Rattle.std.proofs.Common.{◌<◌, length, sym, ap, subst, ◌∙◌}
 use Rattle.jour.specs.Seats.{AreCursors}
-use Rattle.phase_pipes.specs.Ports.{joined_terms}
+use Rattle.phase_pipes.specs.Ports.{IsJoined}
 use Rattle.room_open.specs.Sources.{AreCounts}
 use Rattle.room_open.proofs.tables.add_table.Goals as goal
 
@@ -33,12 +33,12 @@ returns g c = λ setup can there.
     record {
       can = record {
         opened_is = made.opened;
-        counts = subst (λ n. AreCounts setup c.args.cells n c.args.members.now) (sym made.counts.1) can.counts;
+        counts = subst (λ n. AreCounts setup n c.args.members.now) (sym made.counts.1) can.counts;
         ports = made.counts.0 ∙ can.ports;
       };
       passes = made.counts.2;
       table = c.in_ok-table.table;
       tables = made.tables;
-      terms = c.in_ok-table.ensures.terms setup (subst (λ n. AreCounts setup c.args.cells n c.args.members.now) (sym cursors) can.counts) (subst (λ n. n < length setup.tables) (sym number) there)
-          ∙ ap (λ n. joined_terms setup n (record { family = c.args.family; rows = c.args.rows.rows; before = c.args.entries.now.items })) number;
+      terms = subst (λ n. IsJoined setup n (record { family = c.args.family; rows = c.args.rows.rows; before = c.args.entries.now.items }) c.in_ok-table.table.1) number
+          (c.in_ok-table.ensures.terms setup (subst (λ n. AreCounts setup n c.args.members.now) (sym cursors) can.counts) (subst (λ n. n < length setup.tables) (sym number) there));
     }

@@ -16,10 +16,13 @@ pub returns-clause-terms : goal.returns-clause-terms
 returns-clause-terms g c =
     IfOk-weaker c.make.result _ _
     (λ made is setup are there.
-    is
-    ∙ terms_are setup c.args.members.now c.args.number c.len.result c.args.cells c.args.cursors (vec_len c.in_ok-ports.ports)
-    (record { family = c.args.family; rows = c.args.rows.rows; before = c.args.before.now.items }) (lists_of c.in_ok-ports.ports.items) are there (c.len.ensures ∙ c.args.before.now.ok.0)
-    (ports_many c.args.number c.args.members.now c.in_ok-ports.ports c.in_ok-ports.ensures) c.in_ok-ports.ensures)
+    record {
+      cells = c.args.cells;
+      terms_are = is
+          ∙ terms_are setup c.args.members.now c.args.number c.len.result c.args.cells c.args.cursors (vec_len c.in_ok-ports.ports)
+          (record { family = c.args.family; rows = c.args.rows.rows; before = c.args.before.now.items }) (lists_of c.in_ok-ports.ports.items) are there (c.len.ensures ∙ c.args.before.now.ok.0)
+          (ports_many c.args.number c.args.members.now c.in_ok-ports.ports c.in_ok-ports.ensures) c.in_ok-ports.ensures;
+    })
     c.make.ensures.terms
 
 pub returns-clause-start : goal.returns-clause-start

@@ -12,7 +12,7 @@ loop-stood-init g c = record {
   all = c.into_iter-stood-iterator.ensures.into_iter_gives.0;
   opened_are = λ setup counts same.
       let made = c.in_ok-opened.ensures in
-      none_open setup c.args.cells c.args.members.now c.args.actors c.in_ok-opened.opened c.args.before.now.items c.args.channels counts made.opened made.tables made.counts.0 made.counts.1 made.counts.2 c.requires.none;
+      none_open setup c.args.members.now c.args.actors c.in_ok-opened.opened c.args.before.now.items c.args.channels counts made.opened made.tables made.counts.0 made.counts.1 made.counts.2 c.requires.none;
 }
 
 pub open_next-requires-clause-few : goal.open_next-requires-clause-few
@@ -58,7 +58,7 @@ loop-stood-preserved g c =
           let many = pairs_length (BeginsTable setup) 0 i.done c.loop-stood.opened.tables.items t.tables in
           let inside = get_within c.args.tables.items (length i.done) x (next_at i.done c.next.new.self.rest.items c.args.tables.items x joined) in
           let less : length c.loop-stood.opened.tables.items < length setup.tables = omega (arith, many, inside, same) in
-          one_open setup c.args.cells c.args.members.now c.args.actors i.done x c.loop-stood.opened c.open_next.new.opened c.loop-stood.before.items c.open_next.new.before.items t
+          one_open setup c.args.members.now c.args.actors i.done x c.loop-stood.opened c.open_next.new.opened c.loop-stood.before.items c.open_next.new.before.items t
           (c.in_ok-open_next.ensures.opened setup t.can less) c.in_ok-open_next.ensures.before;
     }
 
@@ -68,4 +68,4 @@ returns g c =
     let rest = c.loop-stood.stood-iterator.rest in
     let none : rest.items ≡ [] = nil_from_length rest.items (omega (arith, c.in-None.ensures.steps, rest.ok.0)) in
     let whole = sym (append-nil i.done) ∙ ap (λ z. i.done ++ z) (sym none) ∙ i.all in
-    λ setup counts same. subst (λ z. AreTablesOpen setup c.args.cells c.args.members.now c.args.actors z c.loop-stood.opened c.loop-stood.before.items) whole (i.opened_are setup counts same)
+    λ setup counts same. subst (λ z. AreTablesOpen setup c.args.members.now c.args.actors z c.loop-stood.opened c.loop-stood.before.items) whole (i.opened_are setup counts same)

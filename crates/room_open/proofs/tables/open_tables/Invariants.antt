@@ -9,6 +9,6 @@ abbrev pub invariant-loop-stood : goal.invariant-loop-stood
 invariant-loop-stood g l = record {
   done : List StandingTable;
   all : done ++ l.stood-iterator.rest.items ≡ l.fn.tables.items;
-  opened_are : (setup : Setup) → AreCounts setup l.fn.cells l.fn.channels l.members → length l.fn.tables.items ≡ length setup.tables
-      → AreTablesOpen setup l.fn.cells l.members l.fn.actors done l.opened l.before.items;
+  opened_are : (setup : Setup) → AreCounts setup l.fn.channels l.members → length l.fn.tables.items ≡ length setup.tables
+      → AreTablesOpen setup l.members l.fn.actors done l.opened l.before.items;
 }
